@@ -1,0 +1,9 @@
+pub mod Causes
+pub mod Files
+pub mod Streams
+pub mod Plan
+pub mod Answers
+pub mod MemoryFiles
+pub mod MemoryStreams
+pub mod MemoryAnswers
+pub mod Taking

@@ -1,0 +1,62 @@
+// The objects in memory, each on its way without faults and with one that is planned.
+use super::*;
+use dm_types::{Bytes, CountList, NameList, WholeList};
+use std::test::Fail;
+
+#[test]
+fn a_store_fails_as_planned(rt: HostRuntime) -> Result<(), Fail> {
+    let alloc = rt.alloc();
+    let mut store = MemoryStore::new(alloc, CountList::from_slice(alloc, &[2])?)?;
+    assert!(rt; store.put_new("t/a", b"one").is_ok());
+    assert!(rt; matches!(store.read(alloc, "t/a"), Err(ReadFault::Failed)));
+    let found = store.read(alloc, "t/a").expect(&rt, "read");
+    assert_eq!(rt; found.as_slice(), b"one".as_slice());
+    assert!(rt; store.files().len() == 1);
+    Ok(())
+}
+
+#[test]
+fn a_listing_has_the_names_below(rt: HostRuntime) -> Result<(), Fail> {
+    let alloc = rt.alloc();
+    let mut store = SureStore::new(alloc)?;
+    assert!(rt; store.put_new("t/a", b"1").is_ok());
+    assert!(rt; store.put_new("t/b/c", b"2").is_ok());
+    let names = store.list(alloc, "t").expect(&rt, "list");
+    assert!(rt; names.len() == 1);
+    assert!(rt; names.get(0).is("a"));
+    assert!(rt; store.files().len() == 2);
+    Ok(())
+}
+
+#[test]
+fn bytes_are_taken_and_put(rt: HostRuntime) -> Result<(), Fail> {
+    let alloc = rt.alloc();
+    let failing = CountList::from_slice(alloc, &[1])?;
+    let mut source = MemorySource::new(Bytes::from_slice(alloc, b"hello")?, failing)?;
+    assert!(rt; take_all(alloc, &mut source, 5).is_err());
+    let taken = take_all(alloc, &mut source, 5).expect(&rt, "take");
+    let mut sure = SureSource::new(Bytes::from_slice(alloc, b"hello")?)?;
+    assert!(rt; matches!(take_all(alloc, &mut sure, 4), Err(TakeFault::TooLong)));
+    let mut sink = MemorySink::new(alloc, CountList::from_slice(alloc, &[2])?)?;
+    assert!(rt; sink.put(taken.as_slice()).is_ok());
+    assert!(rt; sink.put(b"lost").is_err());
+    assert_eq!(rt; sink.written().as_slice(), b"hello".as_slice());
+    let mut sure = SureSink::new(alloc)?;
+    assert!(rt; sure.put(b"kept").is_ok());
+    assert!(rt; sure.written().len() == 4);
+    Ok(())
+}
+
+#[test]
+fn names_and_times_are_answered(rt: HostRuntime) -> Result<(), Fail> {
+    let alloc = rt.alloc();
+    let names = NameList::from_slice(alloc, &[[7; 16]])?;
+    let mut source = MemoryNames::new(names, CountList::from_slice(alloc, &[1])?)?;
+    assert!(rt; source.draw().is_err());
+    assert!(rt; matches!(source.draw(), Ok(name) if name[14] == 0 && name[15] == 2));
+    let mut sure = SureNames::new(NameList::from_slice(alloc, &[[7; 16]])?)?;
+    assert!(rt; matches!(sure.draw(), Ok(name) if name[0] == 7));
+    let mut clock = MemoryClock::new(WholeList::from_slice(alloc, &[5])?)?;
+    assert!(rt; clock.now_ms() == 5);
+    Ok(())
+}
