@@ -1,0 +1,4 @@
+pub mod Forms
+pub mod Meaning
+pub mod Places
+pub mod Answers

@@ -1,0 +1,16 @@
+// What the meaning of a commit gives line by line.
+ghost use Rattle.std.specs.Prelude.{◌≡◌, Ok, Err, List};
+ghost use Rattle.delta_actions.specs.Meaning.{commit_of, lines};
+ghost use Rattle.delta_actions.specs.Places.{IsFirstBad, AreGood};
+ghost use Rattle.delta_actions.specs.declared.action.Action.{Action as AnAction};
+
+/// A law: the line that is named is the first that is bad.
+pub fn first_bad_line(bytes: &[u8], line: u64)
+    ensures { commit_of bytes.now ≡ Err line → IsFirstBad (lines bytes.now) line }
+{}
+
+/// A law: no line is bad, and the actions are those of the lines in turn.
+pub fn good_lines(bytes: &[u8])
+    ensures { (found : List AnAction) → commit_of bytes.now ≡ Ok found
+        → AreGood (lines bytes.now) found }
+{}
