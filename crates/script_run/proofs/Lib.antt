@@ -1,0 +1,14 @@
+mod Deciding
+mod Digits
+mod Ending
+mod Found
+mod Gaps
+mod Listed
+mod Naming
+mod Numbers
+mod Reading
+mod Replaying
+mod Showing
+mod Spelled
+mod Spelling
+mod Words

@@ -1,0 +1,124 @@
+-- The commits that were read of a log so far, and of the whole log.
+use Rattle.std.proofs.Common.{◌≡◌, ℕ, zero, suc, ◌+◌, ◌-◌, ◌^◌, ◌<◌, List, [], ◌∷◌, ◌++◌, Option, Some, None, Result, Ok, Err, refl, sym, ◌∙◌, subst, arith, add-one}
+use Rattle.std.specs.Map as entries
+use Rattle.dm_store.specs.Files.{Files, WhereTold, lookup}
+use Rattle.dm_types.specs.declared.refusal.TableRefusal.{TableRefusal}
+use Rattle.dm_types.specs.declared.refusal.TableRefusal.TheVariants as refusal
+use Rattle.dm_types.specs.declared.refusal.Refused.TheVariants as refused
+use Rattle.dm_types.specs.declared.refusal.Stop.{Stop}
+use Rattle.dm_types.specs.declared.refusal.Stop.TheVariants as stop
+use Rattle.delta_actions.specs.declared.action.Action.{Action}
+use Rattle.delta_actions.specs.Meaning.{commit_of}
+use Rattle.script_run.specs.Log.{Log, log_of, commit_path, good_lines, commit_at, commits_below, commits_of, newest_of, is_in}
+use Rattle.script_run.specs.Listed.{FindsNewest}
+use Rattle.script_run.specs.Tells.{Tells}
+use Rattle.script_run.proofs.Listed.{log-lookup, AreVersions}
+use Rattle.script_run.proofs.Numbers.{newest-same}
+
+-- an answer that refuses
+
+pub refuses : {A : Type 0} (told : Option Files) (meaning : Files → Result A TableRefusal) (e : Stop) (r : TableRefusal) → e ≡ stop.Refused (refused.Table r)
+    → WhereTold told (λ files. meaning files ≡ Err r) → Tells told meaning (Err e)
+refuses {A} told meaning e r is refused = subst (λ (x : Stop). Tells {A = A} told meaning (Err x)) (sym is) refused
+
+-- one commit
+
+pub commit_read : (told : Option Files) (table : List ℕ) (n : ℕ) (path bytes : List ℕ) (r : Result (List Action) ℕ) → n < 2 ^ 63 → path ≡ commit_path table n
+    → WhereTold told (λ files. lookup path files ≡ Some bytes) → commit_of bytes ≡ r → WhereTold told (λ files. commit_at (log_of table files) n ≡ good_lines r)
+commit_read None table n path bytes r small is found means = tt
+commit_read (Some files) table n path bytes r small is found means = rw (log-lookup table n files small, ← is, found, means) refl
+
+pub commit_missed : (told : Option Files) (table : List ℕ) (n : ℕ) (path : List ℕ) → n < 2 ^ 63 → path ≡ commit_path table n
+    → WhereTold told (λ files. lookup path files ≡ None) → WhereTold told (λ files. commit_at (log_of table files) n ≡ Err (refusal.LogGap 0))
+commit_missed None table n path small is absent = tt
+commit_missed (Some files) table n path small is absent = rw (log-lookup table n files small, ← is, absent) refl
+
+-- the log, commit by commit
+
+-- the commits below this version are read
+abbrev pub AreRead : List ℕ → ℕ → List (List Action) → Option Files → Type 0
+AreRead table n commits told = WhereTold told (λ files. commits_below (log_of table files) n ≡ Ok commits)
+
+pub reading_begins : (told : Option Files) (table : List ℕ) → AreRead table 0 [] told
+unfolding commits_below
+reading_begins None table = tt
+reading_begins (Some files) table = refl
+
+next : (log : Log) (n : ℕ) (commits : List (List Action)) (commit : List Action) → commits_below log n ≡ Ok commits → commit_at log n ≡ Ok commit → commits_below log (n + 1) ≡ Ok (commits ++ commit ∷ [])
+unfolding commits_below
+next log n commits commit below here = rw (add-one n, below, here) refl
+
+pub reading_goes_on : (told before : Option Files) (table : List ℕ) (n : ℕ) (commits more : List (List Action)) (commit : List Action) → before ≡ told → AreRead table n commits told
+    → WhereTold before (λ files. commit_at (log_of table files) n ≡ Ok commit) → more ≡ commits ++ commit ∷ [] → AreRead table (n + 1) more told
+reading_goes_on None before table n commits more commit kept so_far here is = tt
+reading_goes_on (Some files) before table n commits more commit kept so_far here is =
+    let found : commit_at (log_of table files) n ≡ Ok commit = subst (λ (o : Option Files). WhereTold o (λ files. commit_at (log_of table files) n ≡ Ok commit)) kept here in
+    rw is (next (log_of table files) n commits commit so_far found)
+
+-- a refusal is that of the whole log
+
+stays : (log : Log) (n k : ℕ) (r : TableRefusal) → commits_below log n ≡ Err r → commits_below log (n + k) ≡ Err r
+unfolding commits_below
+stays log n zero r e = let same : n + 0 ≡ n = omega arith in rw same e
+stays log n (suc k) r e = let same : n + suc k ≡ suc (n + k) = omega arith in rw (same, stays log n k r e) refl
+
+stops : (log : Log) (n : ℕ) (commits : List (List Action)) (r : TableRefusal) → commits_below log n ≡ Ok commits → commit_at log n ≡ Err r → commits_below log (n + 1) ≡ Err r
+unfolding commits_below
+stops log n commits r below here = rw (add-one n, below, here) refl
+
+stops_whole : (log : Log) (n newest : ℕ) (commits : List (List Action)) (r : TableRefusal) → n < newest + 1 → commits_below log n ≡ Ok commits → commit_at log n ≡ Err r → commits_below log (newest + 1) ≡ Err r
+stops_whole log n newest commits r within below here =
+    let e : n + 1 + (newest - n) ≡ newest + 1 = omega arith in
+    subst (λ (k : ℕ). commits_below log k ≡ Err r) e (stays log (n + 1) (newest - n) r (stops log n commits r below here))
+
+stops_told : (told : Option Files) (table : List ℕ) (n newest : ℕ) (commits : List (List Action)) (e : Stop) → n < newest + 1 → AreRead table n commits told
+    → Tells told (λ files. commit_at (log_of table files) n) (Err e) → Tells {A = List (List Action)} told (λ files. commits_below (log_of table files) (newest + 1)) (Err e)
+stops_told told table n newest commits stop.Store within so_far here = tt
+stops_told told table n newest commits stop.Memory within so_far here = tt
+stops_told None table n newest commits (stop.Refused (refused.Table r)) within so_far here = tt
+stops_told (Some files) table n newest commits (stop.Refused (refused.Table r)) within so_far here = stops_whole (log_of table files) n newest commits r within so_far here
+
+pub reading_stops : (told before : Option Files) (table : List ℕ) (n newest : ℕ) (commits : List (List Action)) (e : Stop) (answer : Result (List (List Action)) Stop) → answer ≡ Err e → before ≡ told → n < newest + 1 → AreRead table n commits told
+    → Tells before (λ files. commit_at (log_of table files) n) (Err e) → Tells told (λ files. commits_below (log_of table files) (newest + 1)) answer
+reading_stops told before table n newest commits e answer is kept within so_far here =
+    let there : Tells told (λ files. commit_at (log_of table files) n) (Err e) = subst (λ (o : Option Files). Tells o (λ files. commit_at (log_of table files) n) (Err e)) kept here in
+    subst (λ (x : Result (List (List Action)) Stop). Tells told (λ files. commits_below (log_of table files) (newest + 1)) x) (sym is) (stops_told told table n newest commits e within so_far there)
+
+-- the whole log
+
+refused_told : (told : Option Files) (table ns : List ℕ) (e : Stop) → AreVersions table told ns → FindsNewest ns (Err e) → Tells {A = List (List Action)} told (λ files. commits_of (log_of table files)) (Err e)
+unfolding commits_of
+refused_told told table ns stop.Store listed newest = tt
+refused_told told table ns stop.Memory listed newest = tt
+refused_told None table ns (stop.Refused (refused.Table r)) listed newest = tt
+refused_told (Some files) table ns (stop.Refused (refused.Table r)) listed newest = rw (← newest-same ns (entries.keys_of (log_of table files)) listed, newest) refl
+
+pub log_refused : (told : Option Files) (table ns : List ℕ) (e : Stop) (answer : Result (List (List Action)) Stop) → answer ≡ Err e → AreVersions table told ns → FindsNewest ns (Err e)
+    → Tells told (λ files. commits_of (log_of table files)) answer
+log_refused told table ns e answer is listed newest = subst (λ (x : Result (List (List Action)) Stop). Tells told (λ files. commits_of (log_of table files)) x) (sym is) (refused_told told table ns e listed newest)
+
+whole : (log : Log) (ns : List ℕ) (newest : ℕ) → ((n : ℕ) → is_in n ns ≡ is_in n (entries.keys_of log)) → newest_of ns ≡ Ok newest → commits_of log ≡ commits_below log (newest + 1)
+unfolding commits_of
+whole log ns newest same found = rw (← newest-same ns (entries.keys_of log) same, found) refl
+
+told_alike : {A : Type 0} (told : Option Files) (first second : Files → Result A TableRefusal) (answer : Result A Stop) → WhereTold told (λ files. second files ≡ first files)
+    → Tells told first answer → Tells told second answer
+told_alike None first second (Ok value) same here = tt
+told_alike None first second (Err (stop.Refused (refused.Table r))) same here = tt
+told_alike None first second (Err stop.Store) same here = tt
+told_alike None first second (Err stop.Memory) same here = tt
+told_alike (Some files) first second (Ok value) same here = same ∙ here
+told_alike (Some files) first second (Err (stop.Refused (refused.Table r))) same here = same ∙ here
+told_alike (Some files) first second (Err stop.Store) same here = tt
+told_alike (Some files) first second (Err stop.Memory) same here = tt
+
+whole_told : (told : Option Files) (table ns : List ℕ) (newest : ℕ) → AreVersions table told ns → newest_of ns ≡ Ok newest
+    → WhereTold told (λ files. commits_of (log_of table files) ≡ commits_below (log_of table files) (newest + 1))
+whole_told None table ns newest listed found = tt
+whole_told (Some files) table ns newest listed found = whole (log_of table files) ns newest listed found
+
+pub log_read : (told before : Option Files) (table ns : List ℕ) (newest : ℕ) (answer : Result (List (List Action)) Stop) → before ≡ told → AreVersions table told ns → newest_of ns ≡ Ok newest
+    → Tells before (λ files. commits_below (log_of table files) (newest + 1)) answer → Tells told (λ files. commits_of (log_of table files)) answer
+log_read told before table ns newest answer kept listed found read =
+    told_alike told (λ files. commits_below (log_of table files) (newest + 1)) (λ files. commits_of (log_of table files)) answer (whole_told told table ns newest listed found)
+    (subst (λ (o : Option Files). Tells o (λ files. commits_below (log_of table files) (newest + 1)) answer) kept read)

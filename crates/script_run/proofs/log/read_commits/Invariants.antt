@@ -1,0 +1,11 @@
+use Rattle.std.proofs.Common.{◌≡◌}
+use Rattle.script_run.proofs.Reading.{AreRead}
+use Rattle.script_run.proofs.log.read_commits.Given as goal
+
+abbrev pub invariant-loop-version : goal.invariant-loop-version
+invariant-loop-version g l = record {
+  files : g.S.Store.files l.store ≡ g.S.Store.files l.fn.store;
+  faults : g.S.Store.faults l.store ≡ g.S.Store.faults l.fn.store;
+  taken : g.S.Store.taken l.store ≡ g.S.Store.taken l.fn.store;
+  read : AreRead l.table l.version l.commits (g.S.Store.files l.fn.store);
+}

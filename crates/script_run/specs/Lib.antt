@@ -1,0 +1,11 @@
+pub mod Script
+pub mod Spelling
+pub mod Log
+pub mod Listed
+pub mod Live
+pub mod Replay
+pub mod Tells
+pub mod Shown
+pub mod Outcome
+pub mod Ran
+pub mod Reaching

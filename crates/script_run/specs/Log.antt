@@ -1,0 +1,103 @@
+-- The log of a table: the commit files of its folder (PROTOCOL.md, "Delta Log Entries").
+use Rattle.std.specs.Prelude.{ℕ, zero, suc, ◌+◌, ◌/◌, ◌%◌, ◌^◌, max, List, [], ◌∷◌, ◌++◌, Bool, Option, Some, None, Result, Ok, Err, take, drop, codes, nat_lt, ◌==◌, ◌&&◌, if◌then◌else◌}
+use Rattle.std.specs.List.{filter_map, list_any}
+use Rattle.std.specs.Map as entries
+use Rattle.std.specs.Option.{option_or}
+use Rattle.std.specs.Str.{bytes_eq, all_ascii_digits}
+use Rattle.std.specs.Str.Parse.{digits_value}
+use Rattle.dm_store.specs.Files.{Files, name_below}
+use Rattle.dm_types.specs.declared.refusal.TableRefusal.{TableRefusal}
+use Rattle.dm_types.specs.declared.refusal.TableRefusal.TheVariants as refusal
+use Rattle.delta_actions.specs.declared.action.Action.{Action}
+use Rattle.delta_actions.specs.Meaning.{commit_of}
+use Rattle.dm_types.specs.Then.{go, ◌>>=◌}
+
+-- the folder of the commit files
+abbrev pub log_folder : List ℕ → List ℕ
+log_folder table = table ++ codes "/_delta_log"
+
+-- a number in decimal digits, with leading zeros up to the width
+unfoldable pub digits_of_width : ℕ → ℕ → List ℕ
+digits_of_width zero n = []
+digits_of_width (suc width) n = digits_of_width width (n / 10) ++ (48 + n % 10) ∷ []
+
+-- the name of a version's commit file
+abbrev pub commit_name : ℕ → List ℕ
+commit_name version = digits_of_width 20 version ++ codes ".json"
+
+-- its path, below the table's folder
+unfoldable pub commit_path : List ℕ → ℕ → List ℕ
+commit_path table version = log_folder table ++ 47 ∷ commit_name version
+
+-- the version that the name of a commit file spells: twenty digits and `.json`, up to 2^63 - 1
+unfoldable pub version_of : List ℕ → Option ℕ
+version_of name =
+    let digits = take 20 name in
+    if bytes_eq (drop 20 name) (codes ".json") && all_ascii_digits digits && nat_lt (digits_value 10 digits) (2 ^ 63)
+    then Some (digits_value 10 digits) else None
+
+-- the commit files of a table as pairs of version and bytes
+abbrev pub Log : Type 0
+Log = List (ℕ × List ℕ)
+
+-- a commit file of the table with its version; other files are passed by
+abbrev pub commit_file : List ℕ → List ℕ × List ℕ → Option (ℕ × List ℕ)
+commit_file table file = do
+  name ← name_below (log_folder table) file.0
+  version ← version_of name
+  Some (version, file.1)
+
+-- in the order of their puts
+unfoldable pub log_of : List ℕ → Files → Log
+log_of table files = filter_map (commit_file table) files
+
+-- the number is in the list
+abbrev pub is_in : ℕ → List ℕ → Bool
+is_in n ns = list_any (λ m. m == n) ns
+
+-- the greatest of the list, or 0 for an empty one
+unfoldable pub greatest : List ℕ → ℕ
+greatest [] = 0
+greatest (n ∷ ns) = max n (greatest ns)
+
+-- the least number below the bound that isn't in the list
+unfoldable pub first_missing : List ℕ → ℕ → Option ℕ
+first_missing ns zero = None
+first_missing ns (suc n) = option_or (first_missing ns n) (if is_in n ns then None else Some n)
+
+-- the newest, unless a version below it is missing
+abbrev pub unless_gap : Option ℕ → ℕ → Result ℕ TableRefusal
+unless_gap None newest = Ok newest
+unless_gap (Some missing) newest = Err (refusal.LogGap 0)
+
+-- the newest of these versions: there is one, and none below the newest is missing
+unfoldable pub newest_of : List ℕ → Result ℕ TableRefusal
+newest_of [] = Err refusal.NoTable
+newest_of (n ∷ ns) = let newest = greatest (n ∷ ns) in unless_gap (first_missing (n ∷ ns) newest) newest
+
+-- the newest version of a log
+abbrev pub newest_version : Log → Result ℕ TableRefusal
+newest_version log = newest_of (entries.keys_of log)
+
+-- the actions, unless a line is none
+abbrev pub good_lines : Result (List Action) ℕ → Result (List Action) TableRefusal
+good_lines (Ok actions) = Ok actions
+good_lines (Err line) = Err (refusal.BadAction 0 0)
+
+-- the actions of a commit file's bytes, if there is one
+abbrev pub actions_in : Option (List ℕ) → Result (List Action) TableRefusal
+actions_in None = Err (refusal.LogGap 0)
+actions_in (Some bytes) = good_lines (commit_of bytes)
+
+-- the actions of a version
+abbrev pub commit_at : Log → ℕ → Result (List Action) TableRefusal
+commit_at log version = actions_in (entries.lookup (λ n. n == version) log)
+
+-- the actions of each version below the bound
+unfoldable pub commits_below : Log → ℕ → Result (List (List Action)) TableRefusal
+commits_below log zero = Ok []
+commits_below log (suc n) = go (commits_below log n) (λ commits. go (commit_at log n) (λ commit. Ok (commits ++ commit ∷ [])))
+
+-- the commits up to the newest version, or the first refusal
+unfoldable pub commits_of : Log → Result (List (List Action)) TableRefusal
+commits_of log = go (newest_version log) (λ newest. commits_below log (newest + 1))

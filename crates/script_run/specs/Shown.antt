@@ -1,0 +1,34 @@
+-- The answer of SHOW FILES: the live files of the newest version, or the first refusal.
+use Rattle.std.specs.Prelude.{ℕ, List, [], ◌∷◌, ◌++◌, Result, Ok, ◌==◌, if◌then◌else◌}
+use Rattle.std.specs.List.{flat_map}
+use Rattle.dm_store.specs.Files.{Files}
+use Rattle.dm_types.specs.Order.{in_byte_order}
+use Rattle.dm_types.specs.declared.refusal.TableRefusal.{TableRefusal}
+use Rattle.dm_types.specs.Then.{go}
+use Rattle.script_run.specs.Log.{log_of, commits_of}
+use Rattle.script_run.specs.Live.{live_paths}
+
+-- a text, or the refusal
+abbrev pub Answer : Type 0
+Answer = Result (List ℕ) TableRefusal
+
+-- a backslash, tab, line feed and carriage return are written `\\`, `\t`, `\n`, `\r`
+abbrev pub escaped : ℕ → List ℕ
+escaped b =
+    if b == 92 then 92 ∷ 92 ∷ []
+    else if b == 9 then 92 ∷ 116 ∷ []
+    else if b == 10 then 92 ∷ 110 ∷ []
+    else if b == 13 then 92 ∷ 114 ∷ []
+    else b ∷ []
+
+-- a printed field
+abbrev pub field : List ℕ → List ℕ
+field text = flat_map escaped text
+
+-- a line for each path
+abbrev pub path_lines : List (List ℕ) → List ℕ
+path_lines paths = flat_map (λ path. field path ++ 10 ∷ []) paths
+
+-- the paths as logged, in byte order
+unfoldable pub show_files : List ℕ → Files → Answer
+show_files table files = go (commits_of (log_of table files)) (λ commits. Ok (path_lines (in_byte_order (live_paths commits))))

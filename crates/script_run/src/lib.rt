@@ -1,0 +1,20 @@
+//! Runs a script on Delta tables.
+#![tactic(auto)]
+
+mod halt;
+mod laws;
+mod live;
+mod log;
+mod outcome;
+mod runs;
+mod script;
+mod shown;
+mod status;
+
+pub use laws::script_spelled;
+pub use outcome::Outcome;
+pub use runs::run;
+pub use status::Status;
+
+#[cfg(test)]
+mod tests;

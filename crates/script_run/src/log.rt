@@ -1,0 +1,174 @@
+// Loading the log of a table.
+ghost use Rattle.std.specs.Prelude.{◌≡◌, ℕ, ◌+◌, IfOk, OnOk, string_bytes};
+ghost use Rattle.std.specs.List.{All, cons_option};
+ghost use Rattle.std.specs.Str.{all_ascii_digits};
+ghost use Rattle.dm_store.specs.Causes.{Counts, StopCause};
+ghost use Rattle.dm_types.specs.declared.refusal.Refused.TheVariants as refused;
+ghost use Rattle.dm_types.specs.declared.refusal.Stop.TheVariants as stop;
+ghost use Rattle.script_run.specs.Log as spec;
+ghost use Rattle.script_run.specs.Log.{is_in};
+ghost use Rattle.script_run.specs.Listed.{IsVersion, ListsVersions, FindsNewest};
+ghost use Rattle.script_run.specs.Tells.{Tells};
+
+use crate::live::Commits;
+use delta_actions::{ActionFault, Actions, read_commit};
+use dm_store::{ReadFault, Store};
+use dm_types::{Refused, Stop, TableRefusal, Text};
+use std::alloc::{AllocError, Global};
+use std::collections::BTreeSet;
+
+/// The commits of a table up to its newest version.
+pub(crate) fn load_commits<S: Store>(
+    alloc: Global,
+    store: &mut S,
+    table: &Text,
+) -> Result<Commits, Stop>
+    ensures commits { Tells (S.files store.old) (λ files. spec.commits_of (spec.log_of table.now files)) result }
+    ensures kept { S.files store.new ≡ S.files store.old }
+    ensures cause { Counts StopCause (S.faults store.old) (S.faults store.new) result }
+    ensures taken { S.taken store.new ≡ S.taken store.old }
+{
+    let versions = list_versions(alloc, store, table)?;
+    let newest = newest_version(&versions)?;
+    read_commits(alloc, store, table, newest)
+}
+
+// The versions that have a commit file.
+fn list_versions<S: Store>(
+    alloc: Global,
+    store: &mut S,
+    table: &Text,
+) -> Result<BTreeSet<u64>, Stop>
+    ensures versions { ListsVersions table.now (S.files store.old) result }
+    ensures small { IfOk result (λ versions. All IsVersion versions.keys) }
+    ensures kept { S.files store.new ≡ S.files store.old }
+    ensures cause { Counts StopCause (S.faults store.old) (S.faults store.new) result }
+    ensures taken { S.taken store.new ≡ S.taken store.old }
+{
+    let folder = log_folder(alloc, table)?;
+    let names = store.list(alloc, folder.as_str())?;
+    let mut versions = BTreeSet::new(alloc);
+    for name in names.as_slice() {
+        add_version(&mut versions, name.as_str())?;
+    }
+    Ok(versions)
+}
+
+// Adds the version that a name spells; other names are passed by.
+fn add_version(versions: &mut BTreeSet<u64>, name: &str) -> Result<(), AllocError>
+    ensures added { OnOk result ((n : ℕ) → is_in n versions.new.keys ≡ is_in n (cons_option (spec.version_of name.now) versions.old.keys)) }
+    ensures small { OnOk result (All IsVersion versions.old.keys → All IsVersion versions.new.keys) }
+{
+    if let Some(version) = version_of(name) {
+        versions.insert(version)?;
+    }
+    Ok(())
+}
+
+// The newest version, if no older one is missing.
+fn newest_version(versions: &BTreeSet<u64>) -> Result<u64, Stop>
+    requires { All IsVersion versions.now.keys }
+    ensures newest { FindsNewest versions.now.keys result }
+    ensures small { IfOk result IsVersion }
+{
+    let Some(newest) = versions.last() else {
+        return Err(refused(TableRefusal::NoTable));
+    };
+    for version in 0..*newest {
+        if !versions.contains(&version) {
+            return Err(refused(TableRefusal::LogGap { version: 0 }));
+        }
+    }
+    Ok(*newest)
+}
+
+// The commits from version 0 to the newest.
+fn read_commits<S: Store>(
+    alloc: Global,
+    store: &mut S,
+    table: &Text,
+    newest: u64,
+) -> Result<Commits, Stop>
+    requires { IsVersion newest }
+    ensures commits { Tells (S.files store.old) (λ files. spec.commits_below (spec.log_of table.now files) (newest + 1)) result }
+    ensures kept { S.files store.new ≡ S.files store.old }
+    ensures cause { Counts StopCause (S.faults store.old) (S.faults store.new) result }
+    ensures taken { S.taken store.new ≡ S.taken store.old }
+{
+    let mut commits = Commits::new(alloc);
+    for version in 0..newest + 1 {
+        let commit = read_commit_file(alloc, store, table, version)?;
+        commits.push(commit)?;
+    }
+    Ok(commits)
+}
+
+// The actions of a version.
+fn read_commit_file<S: Store>(
+    alloc: Global,
+    store: &mut S,
+    table: &Text,
+    version: u64,
+) -> Result<Actions, Stop>
+    requires { IsVersion version }
+    ensures commit { Tells (S.files store.old) (λ files. spec.commit_at (spec.log_of table.now files) version) result }
+    ensures kept { S.files store.new ≡ S.files store.old }
+    ensures cause { Counts StopCause (S.faults store.old) (S.faults store.new) result }
+    ensures taken { S.taken store.new ≡ S.taken store.old }
+{
+    let path = commit_path(alloc, table, version)?;
+    match store.read(alloc, path.as_str()) {
+        Ok(bytes) => match read_commit(alloc, bytes.as_slice()) {
+            Ok(actions) => Ok(actions),
+            Err(ActionFault::BadAction { .. }) => Err(refused(TableRefusal::BadAction {
+                version: 0,
+                line: 0,
+            })),
+            Err(ActionFault::Memory) => Err(Stop::Memory),
+        },
+        Err(ReadFault::Absent) => Err(refused(TableRefusal::LogGap { version: 0 })),
+        Err(ReadFault::Failed) => Err(Stop::Store),
+        Err(ReadFault::Memory) => Err(Stop::Memory),
+    }
+}
+
+fn refused(refusal: TableRefusal) -> Stop
+    ensures { result ≡ stop.Refused (refused.Table refusal) }
+{
+    Stop::Refused(Refused::Table(refusal))
+}
+
+// The version that the name of a commit file spells.
+fn version_of(name: &str) -> Option<u64>
+    ensures { result ≡ spec.version_of name.now }
+{
+    let (digits, rest) = name.split_at_checked(20)?;
+    if rest != ".json" || !are_digits(digits) {
+        return None;
+    }
+    let version = digits.parse::<u64>().ok()?;
+    if version > i64::MAX as u64 {
+        return None;
+    }
+    Some(version)
+}
+
+fn are_digits(text: &str) -> bool
+    ensures { result ≡ all_ascii_digits text.now }
+{
+    text.as_bytes().iter().all(|byte| byte.is_ascii_digit())
+}
+
+fn log_folder(alloc: Global, table: &Text) -> Result<String, AllocError>
+    ensures { IfOk result (λ folder. string_bytes folder ≡ spec.log_folder table.now) }
+{
+    let table = table.as_str();
+    format!(in alloc; "{table}/_delta_log")
+}
+
+fn commit_path(alloc: Global, table: &Text, version: u64) -> Result<String, AllocError>
+    ensures { IfOk result (λ path. string_bytes path ≡ spec.commit_path table.now version) }
+{
+    let table = table.as_str();
+    format!(in alloc; "{table}/_delta_log/{version:020}.json")
+}

@@ -1,0 +1,384 @@
+// Whole runs over objects in memory.
+use crate::run;
+use dm_store::{MemoryClock, MemoryNames, MemorySink, MemorySource, MemoryStore, Store};
+use dm_types::{Bytes, CountList, NameList, WholeList};
+use std::alloc::{AllocError, Global};
+use std::process::Abort;
+use std::test::Fail;
+
+// The calls of source, store and sink that are to fail.
+#[derive(Clone, Copy)]
+struct Failing {
+    source: &'static [u64],
+    store: &'static [u64],
+    sink: &'static [u64],
+}
+
+const NONE: Failing = Failing {
+    source: &[],
+    store: &[],
+    sink: &[],
+};
+
+// A path and the bytes there.
+type File = (&'static str, &'static str);
+
+const ZERO: &str = "t/_delta_log/00000000000000000000.json";
+
+const ONE: &str = "t/_delta_log/00000000000000000001.json";
+
+const TWO: &str = "t/_delta_log/00000000000000000002.json";
+
+const THREE: &str = "t/_delta_log/00000000000000000003.json";
+
+fn store_of(alloc: Global, files: &[File], failing: &[u64]) -> Result<MemoryStore, Fail> {
+    let mut store = MemoryStore::new(alloc, CountList::from_slice(alloc, failing)?)?;
+    for (path, text) in files {
+        store.put_new(path, text.as_bytes())?;
+    }
+    Ok(store)
+}
+
+// The status of a run, and what it wrote.
+fn ran(
+    alloc: Global,
+    files: &[File],
+    failing: &Failing,
+    words: &[String],
+    script: Bytes,
+) -> Result<(u8, Bytes), Fail> {
+    let mut source = MemorySource::new(script, CountList::from_slice(alloc, failing.source)?)?;
+    let mut store = store_of(alloc, files, failing.store)?;
+    let mut sink = MemorySink::new(alloc, CountList::from_slice(alloc, failing.sink)?)?;
+    let mut clock = MemoryClock::new(WholeList::new(alloc))?;
+    let mut names = MemoryNames::new(NameList::new(alloc), CountList::new(alloc))?;
+    let status = run(
+        alloc,
+        words,
+        &mut source,
+        &mut store,
+        &mut sink,
+        &mut clock,
+        &mut names,
+    );
+    Ok((status, sink.written().clone()?))
+}
+
+// Files, the script that is run over them, and the status and text that it must give.
+struct Case {
+    files: &'static [File],
+    script: &'static str,
+    status: u8,
+    text: &'static str,
+}
+
+fn check(rt: &(impl Abort + AllocGlobal), case: &Case) -> Result<(), Fail> {
+    let script = Bytes::from_slice(rt.alloc(), case.script.as_bytes())?;
+    let (status, text) = ran(rt.alloc(), case.files, &NONE, &[], script)?;
+    assert!(rt; status == case.status);
+    assert!(rt; text.as_slice() == case.text.as_bytes());
+    Ok(())
+}
+
+// Replay, gaps and bad lines; the order of removes and adds; what is printed.
+const LOGS: [Case; 11] = [
+    Case {
+        files: &[
+            (
+                ZERO,
+                "{\"add\":{\"path\":\"b.parquet\"}}\n{\"add\":{\"path\":\"a.parquet\"}}\n",
+            ),
+            (ONE, "{\"remove\":{\"path\":\"b.parquet\"}}\n"),
+        ],
+        script: "SHOW FILES t;",
+        status: 0,
+        text: "a.parquet\n",
+    },
+    Case {
+        files: &[(ZERO, ""), (ONE, ""), (THREE, "")],
+        script: "SHOW FILES t;",
+        status: 1,
+        text: "refused 1: O2 0\n",
+    },
+    Case {
+        files: &[(ZERO, ""), (ONE, "{\"txn\":{}}\n{\n")],
+        script: "SHOW FILES t;",
+        status: 1,
+        text: "refused 1: O3 0 0\n",
+    },
+    Case {
+        files: &[],
+        script: "SHOW FILES t;",
+        status: 1,
+        text: "refused 1: O1\n",
+    },
+    // Commits 0 to 12 with a checkpoint beside them, which isn't read.
+    Case {
+        files: &[
+            (
+                "t/_delta_log/00000000000000000000.json",
+                "{\"add\":{\"path\":\"0.parquet\"}}",
+            ),
+            (
+                "t/_delta_log/00000000000000000001.json",
+                "{\"add\":{\"path\":\"1.parquet\"}}",
+            ),
+            (
+                "t/_delta_log/00000000000000000002.json",
+                "{\"add\":{\"path\":\"2.parquet\"}}",
+            ),
+            (
+                "t/_delta_log/00000000000000000003.json",
+                "{\"add\":{\"path\":\"3.parquet\"}}",
+            ),
+            (
+                "t/_delta_log/00000000000000000004.json",
+                "{\"add\":{\"path\":\"4.parquet\"}}",
+            ),
+            (
+                "t/_delta_log/00000000000000000005.json",
+                "{\"add\":{\"path\":\"5.parquet\"}}",
+            ),
+            (
+                "t/_delta_log/00000000000000000006.json",
+                "{\"add\":{\"path\":\"6.parquet\"}}",
+            ),
+            (
+                "t/_delta_log/00000000000000000007.json",
+                "{\"add\":{\"path\":\"7.parquet\"}}",
+            ),
+            (
+                "t/_delta_log/00000000000000000008.json",
+                "{\"add\":{\"path\":\"8.parquet\"}}",
+            ),
+            (
+                "t/_delta_log/00000000000000000009.json",
+                "{\"add\":{\"path\":\"9.parquet\"}}",
+            ),
+            (
+                "t/_delta_log/00000000000000000010.json",
+                "{\"add\":{\"path\":\"10.parquet\"}}",
+            ),
+            (
+                "t/_delta_log/00000000000000000011.json",
+                "{\"add\":{\"path\":\"11.parquet\"}}",
+            ),
+            (
+                "t/_delta_log/00000000000000000012.json",
+                "{\"add\":{\"path\":\"12.parquet\"}}",
+            ),
+            (
+                "t/_delta_log/00000000000000000010.checkpoint.parquet",
+                "PAR1",
+            ),
+            (
+                "t/_delta_log/_last_checkpoint",
+                "{\"version\":10,\"size\":11}",
+            ),
+        ],
+        script: "SHOW FILES t;",
+        status: 0,
+        text: "0.parquet\n1.parquet\n10.parquet\n11.parquet\n12.parquet\n2.parquet\n3.parquet\n4.parquet\n5.parquet\n6.parquet\n7.parquet\n8.parquet\n9.parquet\n",
+    },
+    // A gap decides before a bad line does.
+    Case {
+        files: &[(ZERO, "{"), (TWO, "")],
+        script: "SHOW FILES t;",
+        status: 1,
+        text: "refused 1: O2 0\n",
+    },
+    // The removes of a version count before its adds, whatever the order of the lines.
+    Case {
+        files: &[
+            (
+                ZERO,
+                "{\"add\":{\"path\":\"kept\"}}\n{\"add\":{\"path\":\"gone\"}}",
+            ),
+            (
+                ONE,
+                "{\"add\":{\"path\":\"kept\"}}\n{\"remove\":{\"path\":\"kept\"}}\n{\"remove\":{\"path\":\"gone\"}}",
+            ),
+        ],
+        script: "SHOW FILES t;",
+        status: 0,
+        text: "kept\n",
+    },
+    // Byte order, each path once, and fields escaped.
+    Case {
+        files: &[
+            (
+                ZERO,
+                "{\"add\":{\"path\":\"b\"}}\n{\"add\":{\"path\":\"a\\tb\\\\c\\nd\\re\"}}\n{\"add\":{\"path\":\"B\"}}",
+            ),
+            (
+                ONE,
+                "{\"add\":{\"path\":\"b\"}}\n{\"add\":{\"path\":\"\u{e9}\"}}\n{\"add\":{\"path\":\"ab\"}}",
+            ),
+        ],
+        script: "SHOW FILES t;",
+        status: 0,
+        text: "B\na\\tb\\\\c\\nd\\re\nab\nb\n\u{e9}\n",
+    },
+    // Names that are no commit files of the table are passed by.
+    Case {
+        files: &[
+            (ZERO, "{\"add\":{\"path\":\"a\"}}"),
+            (
+                "t/_delta_log/00000000000000000000.checkpoint.parquet",
+                "PAR1",
+            ),
+            ("t/_delta_log/_last_checkpoint", "{\"version\":12}"),
+            ("t/_delta_log/0000000000000000007.json", "{"),
+            ("t/_delta_log/000000000000000000007.json", "{"),
+            ("t/_delta_log/0000000000000000000x.json", "{"),
+            ("t/_delta_log/+0000000000000000007.json", "{"),
+            ("t/_delta_log/09223372036854775808.json", "{"),
+            ("t/_delta_log/99999999999999999999.json", "{"),
+            ("t/_delta_log/00000000000000000007.JSON", "{"),
+            ("t/_delta_log/old/00000000000000000007.json", "{"),
+            ("u/_delta_log/00000000000000000007.json", "{"),
+            ("t/part-0.parquet", "PAR1"),
+        ],
+        script: "SHOW FILES t;",
+        status: 0,
+        text: "a\n",
+    },
+    // The greatest number of a commit file is 2^63 - 1.
+    Case {
+        files: &[(ZERO, ""), ("t/_delta_log/09223372036854775807.json", "")],
+        script: "SHOW FILES t;",
+        status: 1,
+        text: "refused 1: O2 0\n",
+    },
+    // No live file is left.
+    Case {
+        files: &[
+            (ZERO, "{\"add\":{\"path\":\"a\"}}"),
+            (ONE, "{\"remove\":{\"path\":\"a\"}}"),
+        ],
+        script: "SHOW FILES t;",
+        status: 0,
+        text: "",
+    },
+];
+
+#[test]
+fn shows_the_live_files(rt: HostRuntime) -> Result<(), Fail> {
+    for case in &LOGS {
+        check(&rt, case)?;
+    }
+    Ok(())
+}
+
+// Scripts over an empty store: a script of the grammar is refused for want of a table.
+const SCRIPTS: [(&str, &str); 23] = [
+    ("SHOW FILES t;", "refused 1: O1\n"),
+    ("show files t ;", "refused 1: O1\n"),
+    (
+        "\r\n\tShOw--\u{e9};\nFILES -- t;\n--;\n 1-a.B_9\n;--end",
+        "refused 1: O1\n",
+    ),
+    ("SHOW FILES FILES;", "refused 1: O1\n"),
+    ("SHOW FILES-t;", "refused 1: O1\n"),
+    ("SHOW FILES--c\nt--c\n;", "refused 1: O1\n"),
+    ("", "refused 0: P1 0\n"),
+    ("SHOW FILES t", "refused 0: P1 0\n"),
+    ("SHOW FILES t;;", "refused 0: P1 0\n"),
+    ("SHOW FILES t; SHOW FILES t;", "refused 0: P1 0\n"),
+    ("SHOW FILES t --;", "refused 0: P1 0\n"),
+    ("SHOWFILES t;", "refused 0: P1 0\n"),
+    ("SHOW FILESt;", "refused 0: P1 0\n"),
+    ("SHOW FILES_ t;", "refused 0: P1 0\n"),
+    ("SHOW FILES ;", "refused 0: P1 0\n"),
+    ("SHOW FILES .t;", "refused 0: P1 0\n"),
+    ("SHOW FILES `t`;", "refused 0: P1 0\n"),
+    ("SHOW FILES t u;", "refused 0: P1 0\n"),
+    ("SHOW FILES t/u;", "refused 0: P1 0\n"),
+    ("SHOW FILES \u{e9};", "refused 0: P1 0\n"),
+    ("SHOW\u{b}FILES t;", "refused 0: P1 0\n"),
+    (
+        "SHOW FILES 1234567890123456789012345678901234567890123456789012345678901234567890123456789012345678901234567890;",
+        "refused 1: O1\n",
+    ),
+    (
+        "SHOW FILES 12345678901234567890123456789012345678901234567890123456789012345678901234567890123456789012345678901;",
+        "refused 0: P1 0\n",
+    ),
+];
+
+#[test]
+fn reads_scripts(rt: HostRuntime) -> Result<(), Fail> {
+    for (script, text) in &SCRIPTS {
+        let script = Bytes::from_slice(rt.alloc(), script.as_bytes())?;
+        let (_, written) = ran(rt.alloc(), &[], &NONE, &[], script)?;
+        assert!(rt; written.as_slice() == text.as_bytes());
+    }
+    // A comment that isn't UTF-8, and the longest script but for one byte and the first that is too long.
+    let bad = Bytes::from_slice(rt.alloc(), b"SHOW FILES t;--\xff")?;
+    assert!(rt;
+        ran(rt.alloc(), &[], &NONE, &[], bad)?.1.as_slice() == "refused 0: P1 0\n".as_bytes()
+    );
+    for (length, text) in [
+        (1_048_576, "refused 0: P1 0\n"),
+        (1_048_577, "refused 0: P2\n"),
+    ] {
+        let spaces = Bytes::from_vec(vec![in rt.alloc(); b' '; length]?);
+        let (status, written) = ran(rt.alloc(), &[], &NONE, &[], spaces)?;
+        assert!(rt; status == 3);
+        assert!(rt; written.as_slice() == text.as_bytes());
+    }
+    Ok(())
+}
+
+// A word, and a first call that fails at each object.
+#[test]
+fn ends_with_the_status_of_a_fault(rt: HostRuntime) -> Result<(), Fail> {
+    let files: &[File] = &[(ZERO, "{\"add\":{\"path\":\"a\"}}")];
+    for (failing, status) in [
+        (
+            Failing {
+                source: &[1],
+                ..NONE
+            },
+            6,
+        ),
+        (
+            Failing {
+                source: &[2],
+                ..NONE
+            },
+            6,
+        ),
+        (
+            Failing {
+                store: &[2],
+                ..NONE
+            },
+            4,
+        ),
+        (
+            Failing {
+                store: &[3],
+                ..NONE
+            },
+            4,
+        ),
+        (Failing { sink: &[1], ..NONE }, 5),
+    ] {
+        let script = Bytes::from_slice(rt.alloc(), b"SHOW FILES t;")?;
+        let (ended, written) = ran(rt.alloc(), files, &failing, &[], script)?;
+        assert!(rt; ended == status);
+        assert!(rt; written.is_empty());
+    }
+    let words = vec![in rt.alloc(); String::from_str(rt.alloc(), "--rot")?]?;
+    let (ended, written) = ran(
+        rt.alloc(),
+        files,
+        &NONE,
+        words.as_slice(),
+        Bytes::new(rt.alloc()),
+    )?;
+    assert!(rt; ended == 2);
+    assert!(rt; written.as_slice() == "usage: deltamerge [--root DIR] [--workload N]\n".as_bytes());
+    Ok(())
+}
