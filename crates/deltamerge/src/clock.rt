@@ -1,0 +1,36 @@
+// The system's clock.
+use dm_store::Clock;
+use std::time;
+
+/// The clock of a runtime.
+#[derive(Drop)]
+pub struct SystemClock<R> {
+    rt: R,
+}
+
+impl<R> SystemClock<R> {
+    pub fn new(rt: R) -> SystemClock<R> {
+        SystemClock { rt }
+    }
+}
+
+impl<R: time::Clock> Clock for SystemClock<R> {
+    /// The last `i64` at a time past it, and 0 where the clock can't be read or stands before 1970.
+    fn now_ms(&mut self) -> i64 {
+        match self.rt.since_1970() {
+            Ok(time) => i64::try_from(time.as_millis()).unwrap_or(i64::MAX),
+            Err(_) => 0,
+        }
+    }
+}
+
+#[cfg(test)]
+mod tests {
+    use super::*;
+
+    #[test]
+    fn stands_after_2020(rt: HostRuntime) {
+        let now = SystemClock::new(rt).now_ms();
+        assert!(rt; now > 1_577_836_800_000, "at {now}");
+    }
+}

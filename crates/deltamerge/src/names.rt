@@ -1,0 +1,51 @@
+// Names of random bytes.
+ghost use Rattle.std.specs.Prelude.{◌≡◌};
+
+use dm_store::{Failed, NameSource};
+use std::random::RandomSource;
+
+/// Names drawn from the random bytes of a runtime.
+#[derive(Drop)]
+pub struct RandomNames<R> {
+    rt: R,
+    /// How often a call failed.
+    pub faults: u64,
+}
+
+impl<R> RandomNames<R> {
+    pub fn new(rt: R) -> RandomNames<R>
+        ensures { result.faults ≡ 0 }
+    {
+        RandomNames { rt, faults: 0 }
+    }
+}
+
+impl<R: RandomSource> NameSource for RandomNames<R> {
+    ghost faults = { λ s. s.faults };
+
+    fn draw(&mut self) -> Result<[u8; 16], Failed> {
+        let mut name = [0; 16];
+        match self.rt.fill_bytes(&mut name) {
+            Ok(()) => Ok(name),
+            Err(_) => {
+                self.faults = self.faults.saturating_add(1);
+                Err(Failed)
+            }
+        }
+    }
+}
+
+#[cfg(test)]
+mod tests {
+    use super::*;
+    use std::test::Fail;
+
+    #[test]
+    fn draws_differ(rt: HostRuntime) -> Result<(), Fail> {
+        let mut names = RandomNames::new(rt);
+        let first = names.draw()?;
+        let second = names.draw()?;
+        assert!(rt; first != second);
+        Ok(())
+    }
+}
