@@ -24,6 +24,7 @@ impl<T> Model for Items<T> {
 }
 
 impl<T> Items<T> {
+    /// An empty list.
     pub fn new(alloc: Global) -> Items<T>
         ensures { result ≡ [] }
     {
@@ -47,24 +48,28 @@ impl<T> Items<T> {
         items
     }
 
+    /// The elements.
     pub fn as_slice(&self) -> &[T]
         ensures { result.now ≡ self.now }
     {
         self.items.as_slice()
     }
 
+    /// How many elements there are.
     pub fn len(&self) -> usize
         ensures { result ≡ length self.now }
     {
         self.items.len()
     }
 
+    /// Whether there is no element.
     pub fn is_empty(&self) -> bool
         ensures { IsTrue result ↔ (self.now ≡ []) }
     {
         self.items.is_empty()
     }
 
+    /// The element at a place, counted from 0.
     pub fn get(&self, at: usize) -> &T
         requires { at < length self.now }
         ensures { slice_get self.now at ≡ Some result.now }
@@ -74,6 +79,7 @@ impl<T> Items<T> {
 }
 
 impl<T: Drop> Items<T> {
+    /// Adds an element at the end.
     pub fn push(&mut self, item: T) -> Result<(), AllocError>
         ensures ok { OnOk result (self.new ≡ self.old ++ item ∷ []) }
         ensures err { OnErr result (self.new ≡ self.old) }
@@ -94,6 +100,7 @@ impl<T: Ord> Items<T> {
 }
 
 impl<T: Copy> Items<T> {
+    /// A list of copies of the elements.
     pub fn from_slice(alloc: Global, items: &[T]) -> Result<Items<T>, AllocError>
         ensures { IfOk result (λ it. it ≡ items.now) }
     {
@@ -101,6 +108,7 @@ impl<T: Copy> Items<T> {
         Ok(Items { items })
     }
 
+    /// Adds copies of the elements at the end.
     pub fn extend_from_slice(&mut self, more: &[T]) -> Result<(), AllocError>
         ensures ok { OnOk result (self.new ≡ self.old ++ more.now) }
         ensures err { OnErr result (self.new ≡ self.old) }

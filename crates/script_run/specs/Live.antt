@@ -5,7 +5,7 @@ use Rattle.std.specs.Str.{bytes_eq}
 use Rattle.delta_actions.specs.declared.action.Action.{Action}
 use Rattle.delta_actions.specs.declared.action.Action.TheVariants as action
 
--- an action with its place in the log
+-- an action with its place in the log; lines are counted over those that have an action, which keeps their order
 pub record Line : Type 0 where
   pub version : ℕ
   pub line : ℕ
@@ -35,7 +35,7 @@ is_of path (action.Add add) = bytes_eq path add.path
 is_of path (action.Remove remove) = bytes_eq path remove.path
 is_of path action.Other = false
 
--- the path of an add or a remove
+-- the path of an add or a remove; other actions have none, and it is asked of adds alone
 abbrev pub path_of : Action → List ℕ
 path_of (action.Add add) = add.path
 path_of (action.Remove remove) = remove.path

@@ -21,7 +21,8 @@ const MAX_SCRIPT: usize = 1_048_576;
 /// `words` are the words after the program's name; none is accepted yet. The script is read from its
 /// source to the end, at most 1,048,576 bytes of it, and then its statement is run. One text goes to
 /// `out` in one piece: the statement's, the line of a refusal, or the usage line. A failed call, or
-/// want of memory, ends the run with nothing more written. The clock and the names aren't asked yet.
+/// want of memory, ends the run with nothing more written; a failed write may leave a front of the
+/// text. The clock and the names aren't asked yet.
 pub fn run<I: Source, S: Store, K: Sink, C: Clock, N: NameSource>(
     alloc: Global,
     words: &[String],

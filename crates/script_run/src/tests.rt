@@ -313,7 +313,7 @@ fn reads_scripts(rt: HostRuntime) -> Result<(), Fail> {
         let (_, written) = ran(rt.alloc(), &[], &NONE, &[], script)?;
         assert!(rt; written.as_slice() == text.as_bytes());
     }
-    // A comment that isn't UTF-8, and the longest script but for one byte and the first that is too long.
+    // A comment that isn't UTF-8; the longest script, and one byte more.
     let bad = Bytes::from_slice(rt.alloc(), b"SHOW FILES t;--\xff")?;
     assert!(rt;
         ran(rt.alloc(), &[], &NONE, &[], bad)?.1.as_slice() == "refused 0: P1 0\n".as_bytes()
