@@ -4,7 +4,7 @@ ghost use Rattle.std.specs.Prelude.{◌≡◌};
 use std::alloc::AllocError;
 use std::fmt;
 
-/// Why a table isn't opened. Places aren't told yet: versions and lines are 0.
+/// Why a table isn't opened.
 #[derive(Clone, Copy, Debug, PartialEq, Eq)]
 pub enum TableRefusal {
     /// `O1`: the log folder holds no commit file.

@@ -1,5 +1,5 @@
 -- What is read is spelled so.
-use Rattle.std.proofs.Common.{ℕ, ◌≡◌, ◌≢◌, ◌≤◌, List, [], ◌∷◌, ◌++◌, length, drop, Bool, true, false, not, ◌&&◌, cond, Some, None, refl, sym, ap, ◌∙◌, subst, append_assoc, inl, inr, arith}
+use Rattle.std.proofs.Common.{ℕ, zero, suc, ◌+◌, ◌≡◌, ◌≢◌, ◌≤◌, List, [], ◌∷◌, ◌++◌, length, drop, Bool, true, false, not, ◌&&◌, cond, Option, Some, None, option_map, refl, sym, ap, ◌∙◌, subst, append_assoc, inl, inr, arith}
 use Rattle.std.specs.Prelude.{IsTrue, IsUtf8, codes, nat_le, ◌==◌, ◌⊎◌}
 use Rattle.std.specs.List.{AllPass, take_while, slice_get}
 use Rattle.std.specs.Option.{ForSome}
@@ -9,10 +9,12 @@ use Rattle.std.proofs.lemmas.Bool.Decides.{nat_tests}
 use Rattle.std.proofs.lemmas.List.{nil_from_length}
 use Rattle.std.proofs.lemmas.List.Elements.{All-nil, All-cons, All-tail}
 use Rattle.std.proofs.lemmas.List.Sums.{take_while-cons}
-use Rattle.std.proofs.lemmas.Option.{cond_some, option_and_then_some, same_Some}
+use Rattle.std.proofs.lemmas.Option.{cond_some, none-some, option_and_then_some, same_Some, some_pair_parts}
 use Rattle.std.proofs.lemmas.Str.{IsUtf8-from_is_utf8}
-use Rattle.script_run.specs.Script.{is_white, begins_comment, is_no_feed, past_gap_from, past_gap, is_word_byte, past_word, is_table_byte, table_token, is_table_name, ends_script, table_before_end, shown_table, table_of}
-use Rattle.script_run.specs.Spelling.{IsLine, IsGap, none, white, comment, IsLastGap, closed, unended, IsWord, IsTableName, SpellsScript}
+use Rattle.script_run.specs.declared.statement.Statement.{Statement}
+use Rattle.script_run.specs.declared.statement.Statement.TheVariants as statement
+use Rattle.script_run.specs.Script.{is_white, begins_comment, is_no_feed, past_gap_from, past_gap, is_word_byte, past_word, is_table_byte, table_token, is_table_name, past_semicolon, table_and_rest, shown_table, statement_of, with_statement, statements_in, statements_of}
+use Rattle.script_run.specs.Spelling.{IsLine, IsGap, none, white, comment, IsLastGap, closed, unended, IsWord, IsTableName, SpellsShowFiles, SpellsStatement, SpellsStatements, no_statement, a_statement, SpellsScript}
 use Rattle.script_run.proofs.Spelled.{IsNoFeed, IsTableByte, IsUncut, IsWordFirst, Stops, word_first, show_letters, files_letters, regroup}
 
 -- what an open comment's bytes are, where a gap goes on behind its line feed, or the bytes end
@@ -135,22 +137,29 @@ name_uncut (b ∷ bytes) (c ∷ front) rest same =
     let later : length (table_token bytes) ≤ length front = name_uncut bytes front rest tail in
     cond_both (is_table_byte b && not (begins_comment (b ∷ bytes))) (b ∷ table_token bytes) [] (λ name. length name ≤ length (c ∷ front)) (λ goes. omega arith) (λ ends. omega arith)
 
--- the name, and what is behind it up to the end
-record IsNameFound (bytes table : List ℕ) : Type 0 where
+-- the name, and what is behind it up to the semicolon
+record IsNameFound (bytes table behind : List ℕ) : Type 0 where
   before_end : List ℕ
-  behind : List ℕ
   parts : bytes ≡ table ++ (before_end ++ 59 ∷ behind)
   name : IsTableName table
   gap : IsGap before_end
-  last : IsLastGap behind
   whole : IsUncut table before_end
 
--- what the end is
-semicolon : (bytes : List ℕ) → ends_script bytes ≡ true → (behind : List ℕ) × (bytes ≡ 59 ∷ behind) × (past_gap behind ≡ [])
-semicolon [] ends = absurd (cc)
-semicolon (b ∷ behind) ends =
-    let (first, none_left) = and_parts (b == 59) (nat_le (length (past_gap behind)) 0) ends in
-    (behind, ap (λ c. c ∷ behind) (eqb-true b 59 first), nil_from_length (past_gap behind) (omega (arith, leb-true (length (past_gap behind)) 0 none_left)))
+-- a choice, and a mapped option, that give something
+pub cond_some_else : {A P : Type 0} (test : Bool) (o : Option A) (y : A) → cond test o None ≡ Some y → (test ≡ true → o ≡ Some y → P) → P
+cond_some_else true o y is next = next refl is
+cond_some_else false o y is next = absurd (none-some y is)
+
+pub option_map_some : {A B P : Type 0} (f : A → B) (o : Option A) (y : B) → option_map f o ≡ Some y → ((x : A) → o ≡ Some x → f x ≡ y → P) → P
+option_map_some f None y is next = absurd (none-some y is)
+option_map_some f (Some x) y is next = next x refl (same_Some (f x) y is)
+
+-- what is passed is a semicolon
+semicolon : (bytes behind : List ℕ) → past_semicolon bytes ≡ Some behind → bytes ≡ 59 ∷ behind
+semicolon [] behind ends = absurd (none-some behind ends)
+semicolon (b ∷ rest) behind ends =
+    let (first, same) = cond_some (b == 59) rest behind ends in
+    rw (eqb-true b 59 first, same) refl
 
 -- a name that meets the reader's test
 name_passed : (name : List ℕ) → is_table_name name ≡ true → AllPass is_table_byte name → IsTableName name
@@ -161,25 +170,24 @@ name_passed (b ∷ name) passes signs =
     let other : (b == 46) ≡ false = not-true (b == 46) first in
     record { some = leb-true 1 (length (b ∷ name)) some; short = leb-true (length (b ∷ name)) 100 short; signs = signs; no_point = λ point. eqb-false b 46 other (same_Some b 46 point) }
 
-name_found : (bytes table : List ℕ) → table_before_end bytes ≡ Some table → IsNameFound bytes table
-name_found bytes table is =
+name_found : (bytes table behind : List ℕ) → table_and_rest bytes ≡ Some (table, behind) → IsNameFound bytes table behind
+name_found bytes table behind is =
     let name : List ℕ = table_token bytes in
     let rest : List ℕ = drop (length name) bytes in
-    let (passes, same) = cond_some (is_table_name name && ends_script (past_gap rest)) name table is in
-    let (named, ends) = and_parts (is_table_name name) (ends_script (past_gap rest)) passes in
-    let (behind, at_end, none_left) = semicolon (past_gap rest) ends in
-    let (gap, inner, rest_parts) = gap_found rest (59 ∷ behind) at_end (λ wrong. cc) in
+    cond_some_else (is_table_name name) (option_map (λ left. (name, left)) (past_semicolon (past_gap rest))) (table, behind) is (λ named ends.
+    option_map_some (λ left. (name, left)) (past_semicolon (past_gap rest)) (table, behind) ends (λ left at_end pair.
+    let parts_of = some_pair_parts name table left behind (ap (λ (p : List ℕ × List ℕ). Some p) pair) in
+    let behind_semicolon : past_semicolon (past_gap rest) ≡ Some behind = at_end ∙ ap (λ (all : List ℕ). Some all) parts_of.1 in
+    let (gap, inner, rest_parts) = gap_found rest (59 ∷ behind) (semicolon (past_gap rest) behind behind_semicolon) (λ wrong. cc) in
     let parts : bytes ≡ name ++ (gap ++ 59 ∷ behind) = name_parts bytes ∙ ap (λ (all : List ℕ). name ++ all) rest_parts in
-    let found : IsNameFound bytes name = record {
+    let found : IsNameFound bytes name behind = record {
       before_end = gap;
-      behind = behind;
       parts = parts;
       name = name_passed name named (name_signs bytes);
       gap = inner;
-      last = last_found behind none_left;
       whole = λ front more hyphens. name_uncut bytes front (more ++ 59 ∷ behind) (parts ∙ sym (append_assoc name gap (59 ∷ behind)) ∙ ap (λ (all : List ℕ). all ++ 59 ∷ behind) hyphens ∙ append_assoc front (45 ∷ 45 ∷ more) (59 ∷ behind));
     } in
-    subst (λ (all : List ℕ). IsNameFound bytes all) same found
+    subst (λ (all : List ℕ). IsNameFound bytes all behind) parts_of.0 found))
 
 -- a word or a name isn't empty
 word_some : (bytes rest : List ℕ) → IsWordFirst bytes → bytes ++ rest ≢ []
@@ -209,16 +217,16 @@ joined : (all before_show show behind_show before_files files behind_files rest 
 joined all before_show show behind_show before_files files behind_files rest at_show at_files at_table = cc
 
 -- each part in turn
-parts_found : (bytes table behind_show behind_files : List ℕ) → IsUtf8 bytes → past_word (codes "SHOW") (past_gap bytes) ≡ Some behind_show → past_word (codes "FILES") (past_gap behind_show) ≡ Some behind_files → table_before_end (past_gap behind_files) ≡ Some table → SpellsScript bytes table
-parts_found bytes table behind_show behind_files text past_show past_files past_table =
+parts_found : (bytes table behind behind_show behind_files : List ℕ) → past_word (codes "SHOW") (past_gap bytes) ≡ Some behind_show → past_word (codes "FILES") (past_gap behind_show) ≡ Some behind_files → table_and_rest (past_gap behind_files) ≡ Some (table, behind) → SpellsShowFiles bytes table behind
+parts_found bytes table behind behind_show behind_files past_show past_files past_table =
     let (show, show_word, show_parts, show_stops) = word_found (codes "SHOW") (past_gap bytes) behind_show past_show in
     let show_first : IsWordFirst show = word_first (codes "SHOW") show (λ same. cc) show_letters show_word in
     let (before_show, gap_show, from_show) = gap_found bytes (show ++ behind_show) show_parts (word_some show behind_show show_first) in
     let (files, files_word, files_parts, files_stops) = word_found (codes "FILES") (past_gap behind_show) behind_files past_files in
     let files_first : IsWordFirst files = word_first (codes "FILES") files (λ same. cc) files_letters files_word in
     let (before_files, gap_files, from_files) = gap_found behind_show (files ++ behind_files) files_parts (word_some files behind_files files_first) in
-    let end = name_found (past_gap behind_files) table past_table in
-    let rest : List ℕ = end.before_end ++ 59 ∷ end.behind in
+    let end = name_found (past_gap behind_files) table behind past_table in
+    let rest : List ℕ = end.before_end ++ 59 ∷ behind in
     let (before_table, gap_table, from_table) = gap_found behind_files (table ++ rest) end.parts (name_some table rest end.name) in
     record {
       before_show = before_show;
@@ -227,26 +235,47 @@ parts_found bytes table behind_show behind_files text past_show past_files past_
       files = files;
       before_table = before_table;
       before_end = end.before_end;
-      behind = end.behind;
-      parts = joined bytes before_show show behind_show before_files files behind_files (before_table ++ (table ++ rest)) from_show from_files from_table ∙ sym (regroup before_show show before_files files before_table table end.before_end (59 ∷ end.behind));
-      text = text;
+      parts = joined bytes before_show show behind_show before_files files behind_files (before_table ++ (table ++ rest)) from_show from_files from_table ∙ sym (regroup before_show show before_files files before_table table end.before_end (59 ∷ behind));
       show_word = show_word;
       files_word = files_word;
       name = end.name;
       gaps = (gap_show, gap_files, gap_table, end.gap);
-      last_gap = end.last;
       apart = word_apart before_files files behind_files behind_show from_files files_first show_stops;
       apart_name = name_apart before_table table rest behind_files from_table files_stops;
       whole = end.whole;
     }
 
-text_found : (bytes table : List ℕ) (text : Bool) → is_utf8 bytes ≡ text → cond text (shown_table bytes) None ≡ Some table → SpellsScript bytes table
-text_found bytes table false is shown = absurd (cc)
-text_found bytes table true is shown =
-    option_and_then_some _ (past_word (codes "SHOW") (past_gap bytes)) table shown (λ behind_show past_show left.
-    option_and_then_some _ (past_word (codes "FILES") (past_gap behind_show)) table left (λ behind_files past_files ends.
-    parts_found bytes table behind_show behind_files (IsUtf8-from_is_utf8 bytes is) past_show past_files ends))
+shown_found : (bytes table behind : List ℕ) → shown_table (past_gap bytes) ≡ Some (table, behind) → SpellsShowFiles bytes table behind
+shown_found bytes table behind shown =
+    option_and_then_some _ (past_word (codes "SHOW") (past_gap bytes)) (table, behind) shown (λ behind_show past_show left.
+    option_and_then_some _ (past_word (codes "FILES") (past_gap behind_show)) (table, behind) left (λ behind_files past_files ends.
+    parts_found bytes table behind behind_show behind_files past_show past_files ends))
 
-pub table_found : (bytes table : List ℕ) → table_of bytes ≡ Some table → SpellsScript bytes table
-unfolding table_of
-table_found bytes table is = text_found bytes table (is_utf8 bytes) refl is
+-- a statement that is read is spelled so
+statement_found : (bytes : List ℕ) (first : Statement) (behind : List ℕ) → statement_of (past_gap bytes) ≡ Some (first, behind) → SpellsStatement bytes first behind
+unfolding statement_of
+statement_found bytes first behind is =
+    option_map_some (λ (shown : List ℕ × List ℕ). (statement.ShowFiles shown.0, shown.1)) (shown_table (past_gap bytes)) (first, behind) is (λ shown found same.
+    let parts = some_pair_parts (statement.ShowFiles shown.0) first shown.1 behind (ap (λ (p : Statement × List ℕ). Some p) same) in
+    subst (λ (it : Statement). SpellsStatement bytes it behind) parts.0 (subst (λ (left : List ℕ). SpellsShowFiles bytes shown.0 left) parts.1 (shown_found bytes shown.0 shown.1 found)))
+
+-- nothing is left, or a statement and what is found behind it
+next_found : (bytes rest : List ℕ) (statements : List Statement) (more : List ℕ → Option (List Statement)) → ((behind : List ℕ) (them : List Statement) → more behind ≡ Some them → SpellsStatements behind them) → past_gap bytes ≡ rest → with_statement rest more ≡ Some statements → SpellsStatements bytes statements
+next_found bytes [] statements more later left all = subst (λ (them : List Statement). SpellsStatements bytes them) (same_Some [] statements all) (no_statement bytes (last_found bytes left))
+next_found bytes (b ∷ rest) statements more later left all =
+    option_and_then_some _ (statement_of (b ∷ rest)) statements all (λ found here mapped.
+    option_map_some (λ (them : List Statement). found.0 ∷ them) (more found.1) statements mapped (λ them there same.
+    subst (λ (every : List Statement). SpellsStatements bytes every) same (a_statement bytes found.0 found.1 them (statement_found bytes found.0 found.1 (rw left here)) (later found.1 them there))))
+
+statements_found : (steps : ℕ) (bytes : List ℕ) (statements : List Statement) → statements_in steps bytes ≡ Some statements → SpellsStatements bytes statements
+unfolding statements_in
+statements_found zero bytes statements is = absurd (none-some statements is)
+statements_found (suc steps) bytes statements is = next_found bytes (past_gap bytes) statements (statements_in steps) (λ behind them found. statements_found steps behind them found) refl is
+
+text_found : (bytes : List ℕ) (statements : List Statement) (text : Bool) → is_utf8 bytes ≡ text → cond text (statements_in (length bytes + 1) bytes) None ≡ Some statements → SpellsScript bytes statements
+text_found bytes statements false is found = absurd (none-some statements found)
+text_found bytes statements true is found = (IsUtf8-from_is_utf8 bytes is, statements_found (length bytes + 1) bytes statements found)
+
+pub script_found : (bytes : List ℕ) (statements : List Statement) → statements_of bytes ≡ Some statements → SpellsScript bytes statements
+unfolding statements_of
+script_found bytes statements is = text_found bytes statements (is_utf8 bytes) refl is

@@ -6,9 +6,11 @@ mod Gaps
 mod Listed
 mod Naming
 mod Numbers
+mod Reader
 mod Reading
 mod Replaying
 mod Showing
 mod Spelled
 mod Spelling
+mod Turns
 mod Words

@@ -86,7 +86,7 @@ pub newest_found : (ns : List ℕ) (k : ℕ) → IsGreatest k ns → first_missi
 newest_found [] k last none = absurd (let off = last.there in cc)
 newest_found (n ∷ ns) k last none = newest_if n ns k None (greatest-is (n ∷ ns) k last.there last.upper) none
 
-pub newest_gap : (ns : List ℕ) (k n : ℕ) → IsGreatest k ns → n < k → first_missing ns n ≡ None → is_in n ns ≡ false → newest_of ns ≡ Err (refusal.LogGap 0)
+pub newest_gap : (ns : List ℕ) (k n : ℕ) → IsGreatest k ns → n < k → first_missing ns n ≡ None → is_in n ns ≡ false → newest_of ns ≡ Err (refusal.LogGap n)
 newest_gap [] k n last below none absent = absurd (let off = last.there in cc)
 newest_gap (m ∷ ns) k n last below none absent =
     let e : n + 1 + (k - (n + 1)) ≡ k = omega arith in

@@ -24,12 +24,12 @@ refuses {A} told meaning e r is refused = subst (λ (x : Stop). Tells {A = A} to
 -- one commit
 
 pub commit_read : (told : Option Files) (table : List ℕ) (n : ℕ) (path bytes : List ℕ) (r : Result (List Action) ℕ) → n < 2 ^ 63 → path ≡ commit_path table n
-    → WhereTold told (λ files. lookup path files ≡ Some bytes) → commit_of bytes ≡ r → WhereTold told (λ files. commit_at (log_of table files) n ≡ good_lines r)
+    → WhereTold told (λ files. lookup path files ≡ Some bytes) → commit_of bytes ≡ r → WhereTold told (λ files. commit_at (log_of table files) n ≡ good_lines n r)
 commit_read None table n path bytes r small is found means = tt
 commit_read (Some files) table n path bytes r small is found means = rw (log-lookup table n files small, ← is, found, means) refl
 
 pub commit_missed : (told : Option Files) (table : List ℕ) (n : ℕ) (path : List ℕ) → n < 2 ^ 63 → path ≡ commit_path table n
-    → WhereTold told (λ files. lookup path files ≡ None) → WhereTold told (λ files. commit_at (log_of table files) n ≡ Err (refusal.LogGap 0))
+    → WhereTold told (λ files. lookup path files ≡ None) → WhereTold told (λ files. commit_at (log_of table files) n ≡ Err (refusal.LogGap n))
 commit_missed None table n path small is absent = tt
 commit_missed (Some files) table n path small is absent = rw (log-lookup table n files small, ← is, absent) refl
 

@@ -1,5 +1,5 @@
 -- What is spelled is read.
-use Rattle.std.proofs.Common.{ℕ, ◌≡◌, ◌≢◌, ◌≤◌, List, [], ◌∷◌, ◌++◌, length, append-nil, Bool, true, false, not, ◌&&◌, Some, refl, sym, ap, ◌∙◌, append_assoc, inl, inr, arith}
+use Rattle.std.proofs.Common.{ℕ, zero, suc, ◌+◌, ◌≡◌, ◌≢◌, ◌≤◌, ◌<◌, List, [], ◌∷◌, ◌++◌, length, length-append, append-nil, Bool, true, false, not, ◌&&◌, Option, Some, option_map, refl, sym, ap, ◌∙◌, append_assoc, inl, inr, arith}
 use Rattle.std.specs.Prelude.{IsTrue, codes, map, nat_le, ◌==◌, ◌⊎◌}
 use Rattle.std.specs.Char.{to_ascii_lowercase}
 use Rattle.std.specs.Option.{ForSome}
@@ -10,10 +10,13 @@ use Rattle.std.proofs.lemmas.Bool.Decides.{nat_tests}
 use Rattle.std.proofs.lemmas.List.{drop_at}
 use Rattle.std.proofs.lemmas.List.Elements.{All-nil, All-cons, All-head, All-tail}
 use Rattle.std.proofs.lemmas.List.Sums.{take_while-cons, AllPass-from_list_all}
+use Rattle.std.proofs.lemmas.Option.{none-some}
 use Rattle.std.proofs.lemmas.Slice.Eq.{bytes_eq-Decides}
 use Rattle.std.proofs.lemmas.Str.{is_utf8-from_IsUtf8}
-use Rattle.script_run.specs.Script.{is_white, first_is, begins_comment, is_no_feed, past_gap_from, past_gap, is_word_byte, past_word, is_table_byte, table_token, is_table_name, ends_script, table_before_end, table_of}
-use Rattle.script_run.specs.Spelling.{IsLine, IsGap, none, white, comment, IsLastGap, closed, unended, IsWord, IsTableName, SpellsScript}
+use Rattle.script_run.specs.declared.statement.Statement.{Statement}
+use Rattle.script_run.specs.declared.statement.Statement.TheVariants as statement
+use Rattle.script_run.specs.Script.{is_white, first_is, begins_comment, is_no_feed, past_gap_from, past_gap, is_word_byte, past_word, is_table_byte, table_token, is_table_name, past_semicolon, table_and_rest, shown_table, statement_of, with_statement, statements_in, statements_of}
+use Rattle.script_run.specs.Spelling.{IsLine, IsGap, none, white, comment, IsLastGap, closed, unended, IsWord, IsTableName, SpellsShowFiles, SpellsStatement, SpellsStatements, no_statement, a_statement, SpellsScript}
 
 -- each test of a byte as a fact
 abbrev pub IsNoFeed : ℕ → Type 0
@@ -178,10 +181,10 @@ name_passes (b ∷ name) is =
     let other : (b == 46) ≡ false = false_from_ne_true (b == 46) (λ point. is.no_point (ap (λ c. Some c) (eqb-true b 46 point))) in
     and_from (nat_le 1 (length (b ∷ name)) && nat_le (length (b ∷ name)) 100) (not (b == 46)) (and_from (nat_le 1 (length (b ∷ name))) (nat_le (length (b ∷ name)) 100) (le-leb 1 (length (b ∷ name)) is.some) (le-leb (length (b ∷ name)) 100 is.short)) (not_from_false (b == 46) other)
 
--- a semicolon, with the last gap behind it
-end_passes : {gap behind : List ℕ} → IsGap gap → IsLastGap behind → ends_script (past_gap (gap ++ 59 ∷ behind)) ≡ true
+-- a semicolon is passed behind a gap
+end_passes : {gap : List ℕ} (behind : List ℕ) → IsGap gap → past_semicolon (past_gap (gap ++ 59 ∷ behind)) ≡ Some behind
 unfolding past_gap_from
-end_passes {behind = behind} gap last = rw (gap_past (59 ∷ behind) gap, last_past last) refl
+end_passes behind gap = rw (gap_past (59 ∷ behind) gap) refl
 
 -- a gap ends before a name
 name_past : {gap : List ℕ} (name before_end behind : List ℕ) → IsGap gap → IsTableName name → IsUncut name before_end → past_gap (gap ++ (name ++ (before_end ++ 59 ∷ behind))) ≡ name ++ (before_end ++ 59 ∷ behind)
@@ -197,9 +200,9 @@ name_stops name rest (white b more blank gap) is apart = white_is_no_word b blan
 name_stops name rest (comment text more line gap) is apart = refl
 
 -- the name is read, and the end behind it
-name_ends : (name gap behind : List ℕ) → IsTableName name → IsUncut name gap → IsGap gap → IsLastGap behind → table_before_end (name ++ (gap ++ 59 ∷ behind)) ≡ Some name
-name_ends name gap behind is whole before_end last =
-    rw (name_read name gap behind is.signs whole before_end, name_passes name is, drop_at name (gap ++ 59 ∷ behind) (length name) refl, end_passes before_end last) refl
+name_ends : (name gap behind : List ℕ) → IsTableName name → IsUncut name gap → IsGap gap → table_and_rest (name ++ (gap ++ 59 ∷ behind)) ≡ Some (name, behind)
+name_ends name gap behind is whole before_end =
+    rw (name_read name gap behind is.signs whole before_end, name_passes name is, drop_at name (gap ++ 59 ∷ behind) (length name) refl, end_passes behind before_end) refl
 
 -- both words are letters
 pub show_letters : AllPass is_word_byte (codes "SHOW")
@@ -212,9 +215,9 @@ files_letters = AllPass-from_list_all is_word_byte (codes "FILES") refl
 pub regroup : (a b c d e f g h : List ℕ) → a ++ b ++ c ++ d ++ e ++ f ++ g ++ h ≡ a ++ (b ++ (c ++ (d ++ (e ++ (f ++ (g ++ h))))))
 regroup a b c d e f g h = simp append_assoc
 
-module _ (bytes table : List ℕ) (it : SpellsScript bytes table) where
+module _ (bytes table behind : List ℕ) (it : SpellsShowFiles bytes table behind) where
   behind_table : List ℕ
-  behind_table = it.before_end ++ 59 ∷ it.behind
+  behind_table = it.before_end ++ 59 ∷ behind
 
   behind_files : List ℕ
   behind_files = it.before_table ++ (table ++ behind_table)
@@ -225,7 +228,7 @@ module _ (bytes table : List ℕ) (it : SpellsScript bytes table) where
   at_show : past_gap bytes ≡ it.show ++ behind_show
   unfolding behind_show behind_files behind_table
   at_show =
-      ap (λ (all : List ℕ). past_gap all) (it.parts ∙ regroup it.before_show it.show it.before_files it.files it.before_table table it.before_end (59 ∷ it.behind)) ∙ word_past it.show behind_show it.gaps.0 (word_first (codes "SHOW") it.show (λ same. cc) show_letters it.show_word)
+      ap (λ (all : List ℕ). past_gap all) (it.parts ∙ regroup it.before_show it.show it.before_files it.files it.before_table table it.before_end (59 ∷ behind)) ∙ word_past it.show behind_show it.gaps.0 (word_first (codes "SHOW") it.show (λ same. cc) show_letters it.show_word)
 
   past_show : past_word (codes "SHOW") (past_gap bytes) ≡ Some behind_show
   unfolding behind_show
@@ -236,10 +239,40 @@ module _ (bytes table : List ℕ) (it : SpellsScript bytes table) where
   past_files =
       rw (word_past it.files behind_files it.gaps.1 (word_first (codes "FILES") it.files (λ same. cc) files_letters it.files_word)) (word_read (codes "FILES") it.files behind_files files_letters it.files_word (name_stops table behind_table it.gaps.2 it.name it.apart_name))
 
-  past_table : table_before_end (past_gap behind_files) ≡ Some table
+  past_table : table_and_rest (past_gap behind_files) ≡ Some (table, behind)
   unfolding behind_files behind_table
-  past_table = rw (name_past table it.before_end it.behind it.gaps.2 it.name it.whole) (name_ends table it.before_end it.behind it.name it.whole it.gaps.3 it.last_gap)
+  past_table = rw (name_past table it.before_end behind it.gaps.2 it.name it.whole) (name_ends table it.before_end behind it.name it.whole it.gaps.3)
 
-  pub table_read : table_of bytes ≡ Some table
-  unfolding table_of
-  table_read = rw (is_utf8-from_IsUtf8 bytes it.text, past_show, past_files) past_table
+  shown_read : shown_table (past_gap bytes) ≡ Some (table, behind)
+  shown_read = rw (past_show, past_files) past_table
+
+  shown_shorter : length behind < length bytes
+  shown_shorter =
+      omega (arith, ap length (it.parts ∙ regroup it.before_show it.show it.before_files it.files it.before_table table it.before_end (59 ∷ behind)), length-append it.before_show (it.show ++ (it.before_files ++ (it.files ++ (it.before_table ++ (table ++ (it.before_end ++ (59 ∷ behind))))))), length-append it.show (it.before_files ++ (it.files ++ (it.before_table ++ (table ++ (it.before_end ++ (59 ∷ behind)))))), length-append it.before_files (it.files ++ (it.before_table ++ (table ++ (it.before_end ++ (59 ∷ behind))))), length-append it.files (it.before_table ++ (table ++ (it.before_end ++ (59 ∷ behind)))), length-append it.before_table (table ++ (it.before_end ++ (59 ∷ behind))), length-append table (it.before_end ++ (59 ∷ behind)), length-append it.before_end (59 ∷ behind))
+
+-- a statement that is spelled is read, and takes a byte at least
+statement_read : (bytes : List ℕ) (first : Statement) (behind : List ℕ) → SpellsStatement bytes first behind → statement_of (past_gap bytes) ≡ Some (first, behind)
+unfolding statement_of
+statement_read bytes (statement.ShowFiles table) behind it = rw (shown_read bytes table behind it) refl
+
+statement_shorter : (bytes : List ℕ) (first : Statement) (behind : List ℕ) → SpellsStatement bytes first behind → length behind < length bytes
+statement_shorter bytes (statement.ShowFiles table) behind it = shown_shorter bytes table behind it
+
+-- where a statement is found, it is the first
+pub with_found : (bytes : List ℕ) (first : Statement) (behind : List ℕ) (more : List ℕ → Option (List Statement)) → statement_of bytes ≡ Some (first, behind) → with_statement bytes more ≡ option_map (λ statements. first ∷ statements) (more behind)
+unfolding statement_of
+with_found [] first behind more found = absurd (none-some (first, behind) found)
+with_found (b ∷ rest) first behind more found = rw found refl
+
+statements_read : {bytes : List ℕ} {statements : List Statement} (steps : ℕ) → SpellsStatements bytes statements → length bytes < steps → statements_in steps bytes ≡ Some statements
+unfolding statements_in
+statements_read zero it short = absurd (omega arith)
+statements_read (suc steps) (no_statement bytes last) short = rw (last_past last) refl
+statements_read (suc steps) (a_statement bytes first behind more here later) short =
+    let shorter : length behind < length bytes = statement_shorter bytes first behind here in
+    let rest : statements_in steps behind ≡ Some more = statements_read steps later (omega arith) in
+    with_found (past_gap bytes) first behind (statements_in steps) (statement_read bytes first behind here) ∙ rw rest refl
+
+pub script_read : (bytes : List ℕ) (statements : List Statement) → SpellsScript bytes statements → statements_of bytes ≡ Some statements
+unfolding statements_of
+script_read bytes statements it = rw (is_utf8-from_IsUtf8 bytes it.0) (statements_read (length bytes + 1) it.1 (omega arith))

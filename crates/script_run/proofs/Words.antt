@@ -7,7 +7,7 @@ use Rattle.std.proofs.lemmas.Bool.Decides.{nat_tests}
 use Rattle.std.proofs.lemmas.Slice.Eq.{bytes_eq-Decides}
 use Rattle.std.proofs.lemmas.Str.{IsUtf8-from_is_utf8, is_utf8-from_IsUtf8}
 use Rattle.std.proofs.lemmas.Str.Ascii.{IsAscii-cons}
-use Rattle.script_run.specs.Script.{is_table_byte, begins_comment, table_token, shown_table, table_of}
+use Rattle.script_run.specs.Script.{is_table_byte, begins_comment, table_token}
 
 -- a test that tells whether two texts are the same
 pub same_test : (test : Bool) (xs ys : List ℕ) → (IsTrue test ↔ (xs ≡ ys)) → test ≡ bytes_eq xs ys
@@ -33,14 +33,6 @@ pub table_token-ascii : (bytes : List ℕ) → IsAscii (table_token bytes)
 unfolding table_token
 table_token-ascii [] = λ i. omega arith
 table_token-ascii (b ∷ rest) = token_step b rest (is_table_byte b) (begins_comment (b ∷ rest)) refl refl (table_token-ascii rest)
-
-pub table_none : (script : List ℕ) (text : Bool) → text ≡ is_utf8 script → text ≡ false → table_of script ≡ None
-unfolding table_of
-table_none script text is apart = let e : is_utf8 script ≡ false = sym is ∙ apart in rw e refl
-
-pub table_shown : (script : List ℕ) (text : Bool) (known : Option (List ℕ)) → text ≡ is_utf8 script → text ≡ true → shown_table script ≡ known → table_of script ≡ known
-unfolding table_of
-table_shown script text known is holds shown = let e : is_utf8 script ≡ true = sym is ∙ holds in rw e shown
 
 -- a text of these bytes
 pub text_made : (made : Option (List ℕ)) (bytes : List ℕ) → IfSome made (λ it. it ≡ bytes) → (IsSome made ↔ IsUtf8 bytes) → IsUtf8 bytes → made ≡ Some bytes

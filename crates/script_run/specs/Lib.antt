@@ -7,5 +7,6 @@ pub mod Replay
 pub mod Tells
 pub mod Shown
 pub mod Outcome
+pub mod Running
 pub mod Ran
 pub mod Reaching

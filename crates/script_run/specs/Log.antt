@@ -65,10 +65,10 @@ unfoldable pub first_missing : List ℕ → ℕ → Option ℕ
 first_missing ns zero = None
 first_missing ns (suc n) = option_or (first_missing ns n) (if is_in n ns then None else Some n)
 
--- the newest, unless a version below it is missing
+-- the newest, unless a version below it is missing: then the refusal names the least such version
 abbrev pub unless_gap : Option ℕ → ℕ → Result ℕ TableRefusal
 unless_gap None newest = Ok newest
-unless_gap (Some missing) newest = Err (refusal.LogGap 0)
+unless_gap (Some missing) newest = Err (refusal.LogGap missing)
 
 -- the newest of these versions: there is one, and none below the newest is missing
 unfoldable pub newest_of : List ℕ → Result ℕ TableRefusal
@@ -79,19 +79,19 @@ newest_of (n ∷ ns) = let newest = greatest (n ∷ ns) in unless_gap (first_mis
 abbrev pub newest_version : Log → Result ℕ TableRefusal
 newest_version log = newest_of (entries.keys_of log)
 
--- the actions, unless a line is none
-abbrev pub good_lines : Result (List Action) ℕ → Result (List Action) TableRefusal
-good_lines (Ok actions) = Ok actions
-good_lines (Err line) = Err (refusal.BadAction 0 0)
+-- the actions of a version, unless a line is none
+abbrev pub good_lines : ℕ → Result (List Action) ℕ → Result (List Action) TableRefusal
+good_lines version (Ok actions) = Ok actions
+good_lines version (Err line) = Err (refusal.BadAction version line)
 
--- the actions of a commit file's bytes, if there is one
-abbrev pub actions_in : Option (List ℕ) → Result (List Action) TableRefusal
-actions_in None = Err (refusal.LogGap 0)
-actions_in (Some bytes) = good_lines (commit_of bytes)
+-- the actions of a version's commit file, if there is one
+abbrev pub actions_in : ℕ → Option (List ℕ) → Result (List Action) TableRefusal
+actions_in version None = Err (refusal.LogGap version)
+actions_in version (Some bytes) = good_lines version (commit_of bytes)
 
 -- the actions of a version
 abbrev pub commit_at : Log → ℕ → Result (List Action) TableRefusal
-commit_at log version = actions_in (entries.lookup (λ n. n == version) log)
+commit_at log version = actions_in version (entries.lookup (λ n. n == version) log)
 
 -- the actions of each version below the bound
 unfoldable pub commits_below : Log → ℕ → Result (List (List Action)) TableRefusal

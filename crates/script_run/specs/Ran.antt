@@ -1,13 +1,16 @@
 -- What a run leaves: its status, what it wrote, what it read, and the counts of faults.
-use Rattle.std.specs.Prelude.{◌≡◌, ◌≢◌, ◌⊎◌, ℕ, ◌≤◌, List, length, take, Option, IfSome, ⊤, ◌==◌, if◌then◌else◌}
-use Rattle.std.specs.Io.KnownBytes.{Appends, Keeps, IsAtEnd}
+use Rattle.std.specs.Prelude.{◌≡◌, ◌≢◌, ℕ, ◌≤◌, List, [], length, take, Option, IfSome, ⊤, ◌==◌, if◌then◌else◌}
+use Rattle.std.specs.Io.KnownBytes.{Appends, IsAtEnd}
 use Rattle.dm_store.specs.Causes.{Rose}
-use Rattle.dm_store.specs.Files.{Files, WhereTold}
+use Rattle.dm_store.specs.Files.{Files}
 use Rattle.script_run.specs.declared.status.Status.{Status}
 use Rattle.script_run.specs.declared.status.Status.TheVariants as status
 use Rattle.script_run.specs.declared.outcome.Outcome.{Outcome}
-use Rattle.script_run.specs.Outcome.{outcome, max_script}
-use Rattle.script_run.specs.Shown.{Answer, show_files}
+use Rattle.script_run.specs.declared.statement.Statement.{Statement}
+use Rattle.script_run.specs.declared.outcome.Due.{Due}
+use Rattle.script_run.specs.declared.outcome.Due.TheVariants as due
+use Rattle.script_run.specs.Outcome.{due_of, max_script}
+use Rattle.script_run.specs.Running.{Runs}
 
 -- the number that a run returns
 abbrev pub code_of : Status → ℕ
@@ -53,36 +56,34 @@ Blames status.SourceFailed before now = Rose before.source now.source × (now �
 Blames status.NoMemory before now = now ≡ before
 Blames status.NamesFailed before now = Rose before.names now.names × (now ≡ record before { names = now.names })
 
--- the outcome of some script and of some answers; where the source and the store tell what they hold,
--- of that script and of the answers over those files
-pub record IsDue {W : Type 0} (words : List W) (left : Option (List ℕ)) (told : Option Files) (due : Outcome) : Type 0 where
+-- the script decides, and not the words
+abbrev pub IsOfScript : Due → Type 0
+IsOfScript (due.Ends ending) = ending.status ≢ status.BadWords
+IsOfScript (due.Runs statements) = ⊤
+
+-- what is due is done, or a failure comes before: the files before and after, what is written, and the status
+pub data Does : Due → Option Files → Option Files → List ℕ → Status → Type 0 where
+  -- the line is written
+  ended : (ending : Outcome) (files : Option Files) → Does (due.Ends ending) files files ending.text ending.status
+  -- the statements are run, the first with the number 1
+  ran : (statements : List Statement) (old new : Option Files) (text : List ℕ) (ended : Status) → Runs 1 statements old new text ended → Does (due.Runs statements) old new text ended
+  -- a call of the source failed before the script was read
+  unread : (what : Due) (files : Option Files) → IsOfScript what → Does what files files [] status.SourceFailed
+  -- a call of the sink failed at the line, and a front of it is written
+  line_cut : (ending : Outcome) (files : Option Files) (count : ℕ) → Does (due.Ends ending) files files (take count ending.text) status.SinkFailed
+  -- there was no memory
+  no_memory : (what : Due) (files : Option Files) → Does what files files [] status.NoMemory
+
+-- what a run with these words did, by the bytes of its source, the files before and after, what was written before and
+-- after, and its status; where the source tells its bytes, they are the script
+pub record Ran {W : Type 0} (words : List W) (left : Option (List ℕ)) (files_old files_new : Option Files) (old new : Option (List ℕ)) (status : Status) : Type 0 where
   pub script : List ℕ
-  pub answers : List ℕ → Answer
+  pub text : List ℕ
   pub of_source : IfSome left (λ bytes. script ≡ bytes)
-  pub of_store : WhereTold told (λ files. (table : List ℕ) → answers table ≡ show_files table files)
-  pub is : due ≡ outcome words script answers
+  pub written : Appends old new text
+  pub does : Does (due_of words script) files_old files_new text status
 
--- a statement is run
-abbrev pub IsOfStatement : Outcome → Type 0
-IsOfStatement due = (due.status ≡ status.Done) ⊎ (due.status ≡ status.Refused)
-
--- the status is the one that is due and its text is written, or a failure came before
-abbrev pub Finishes : Status → Outcome → Option (List ℕ) → Option (List ℕ) → Type 0
-Finishes status.Done due old new = (due.status ≡ status.Done) × Appends old new due.text
-Finishes status.Refused due old new = (due.status ≡ status.Refused) × Appends old new due.text
-Finishes status.BadWords due old new = (due.status ≡ status.BadWords) × Appends old new due.text
-Finishes status.BadScript due old new = (due.status ≡ status.BadScript) × Appends old new due.text
-Finishes status.StoreFailed due old new = IsOfStatement due × Keeps old new
-Finishes status.SinkFailed due old new = (count : ℕ) × (count ≤ length due.text) × Appends old new (take count due.text)
-Finishes status.SourceFailed due old new = (due.status ≢ status.BadWords) × Keeps old new
-Finishes status.NoMemory due old new = Keeps old new
-Finishes status.NamesFailed due old new = ⊥
-
--- a run with this status wrote what is due
-abbrev pub WritesDue : {W : Type 0} → Status → List W → Option (List ℕ) → Option Files → Option (List ℕ) → Option (List ℕ) → Type 0
-WritesDue status words left told old new = (due : Outcome) × IsDue words left told due × Finishes status due old new
-
--- where a statement ran, or the script isn't in the grammar, the source was read to its end; where the words
+-- where statements ran, or the script isn't in the grammar, the source was read to its end; where the words
 -- aren't accepted it wasn't touched
 abbrev pub ReadsSource : Status → Option (List ℕ) → Option (List ℕ) → Type 0
 ReadsSource status.Done old new = IsAtEnd new

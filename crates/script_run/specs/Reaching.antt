@@ -1,67 +1,67 @@
--- The steps of a run: the outcome is reached, and then written.
-use Rattle.std.specs.Prelude.{◌≡◌, ◌≢◌, ℕ, List, Option, Result, Ok, Err, ⊤}
-use Rattle.std.specs.Io.KnownBytes.{IsAtEnd}
+-- The steps of a run: what is due is reached, and statement after statement is run and written.
+use Rattle.std.specs.Prelude.{◌≡◌, ℕ, List, [], ◌∷◌, Option, IfSome, Result, Ok, Err, ⊤, ◌⊎◌}
+use Rattle.std.specs.Io.KnownBytes.{Appends, IsAtEnd}
 use Rattle.dm_store.specs.Causes.{Rose}
-use Rattle.dm_store.specs.Files.{Files, WhereTold}
-use Rattle.script_run.specs.declared.status.Status.{Status}
-use Rattle.script_run.specs.declared.status.Status.TheVariants as status
-use Rattle.script_run.specs.declared.outcome.Outcome.{Outcome}
+use Rattle.dm_store.specs.Files.{Files}
+use Rattle.dm_store.specs.declared.faults.SinkFault.{SinkFault}
+use Rattle.dm_store.specs.declared.faults.SinkFault.TheVariants as sink
 use Rattle.script_run.specs.declared.halt.Halt.{Halt}
 use Rattle.script_run.specs.declared.halt.Halt.TheVariants as halt
-use Rattle.script_run.specs.Outcome.{outcome_of_answer}
-use Rattle.script_run.specs.Shown.{Answer, show_files}
-use Rattle.script_run.specs.Ran.{IsDue, IsOfStatement, ReadsSource}
+use Rattle.script_run.specs.declared.outcome.Outcome.{Outcome}
+use Rattle.script_run.specs.declared.outcome.Due.{Due}
+use Rattle.script_run.specs.declared.outcome.Due.TheVariants as due
+use Rattle.script_run.specs.declared.statement.Statement.{Statement}
+use Rattle.script_run.specs.declared.status.Status.{Status}
+use Rattle.script_run.specs.declared.status.Status.TheVariants as status
+use Rattle.script_run.specs.Outcome.{due_of}
+use Rattle.script_run.specs.Ran.{ReadsSource, Counters, Blames, Does}
+use Rattle.script_run.specs.Running.{Answers, Runs}
 
--- an outcome ends a run by its text, and not by a failure
-abbrev pub IsEnding : Status → Type 0
-IsEnding status.Done = ⊤
-IsEnding status.Refused = ⊤
-IsEnding status.BadWords = ⊤
-IsEnding status.BadScript = ⊤
-IsEnding status.StoreFailed = ⊥
-IsEnding status.SinkFailed = ⊥
-IsEnding status.SourceFailed = ⊥
-IsEnding status.NoMemory = ⊥
-IsEnding status.NamesFailed = ⊥
+-- what some script makes due, the source's where it tells its bytes; or the source failed, which only a run without
+-- words asks
+abbrev pub Reaches : {W : Type 0} → List W → Option (List ℕ) → Result Due Halt → Type 0
+Reaches words left (Ok what) = (script : List ℕ) × IfSome left (λ bytes. script ≡ bytes) × (what ≡ due_of words script)
+Reaches words left (Err halt.Source) = words ≡ []
+Reaches words left (Err halt.Memory) = ⊤
 
--- the outcome of some answer; where the store tells its files, of the answer over them
-abbrev pub Answers : List ℕ → Option Files → Result Outcome Halt → Type 0
-Answers table told (Ok due) = (answer : Answer) × (due ≡ outcome_of_answer answer) × WhereTold told (λ files. answer ≡ show_files table files)
-Answers table told (Err halt.Store) = ⊤
-Answers table told (Err halt.Source) = ⊥
-Answers table told (Err halt.Memory) = ⊤
-
--- the outcome that is due, or why none was reached
-abbrev pub Reaches : {W : Type 0} → List W → Option (List ℕ) → Option Files → Result Outcome Halt → Type 0
-Reaches words left told (Ok due) = IsDue words left told due
-Reaches words left told (Err halt.Store) = (due : Outcome) × IsDue words left told due × IsOfStatement due
-Reaches words left told (Err halt.Source) = (due : Outcome) × IsDue words left told due × (due.status ≢ status.BadWords)
-Reaches words left told (Err halt.Memory) = ⊤
-
-abbrev pub ReadsBefore : Result Outcome Halt → Option (List ℕ) → Option (List ℕ) → Type 0
-ReadsBefore (Ok due) old new = ReadsSource due.status old new
-ReadsBefore (Err halt.Store) old new = IsAtEnd new
+-- what was read of the source before
+abbrev pub ReadsBefore : Result Due Halt → Option (List ℕ) → Option (List ℕ) → Type 0
+ReadsBefore (Ok (due.Ends ending)) old new = ReadsSource ending.status old new
+ReadsBefore (Ok (due.Runs statements)) old new = IsAtEnd new
 ReadsBefore (Err halt.Source) old new = ⊤
 ReadsBefore (Err halt.Memory) old new = ⊤
 
 abbrev pub SourceCause : Halt → ℕ → ℕ → Type 0
-SourceCause halt.Store before now = now ≡ before
 SourceCause halt.Source before now = Rose before now
 SourceCause halt.Memory before now = now ≡ before
 
-abbrev pub StoreCause : Halt → ℕ → ℕ → Type 0
-StoreCause halt.Store before now = Rose before now
-StoreCause halt.Source before now = now ≡ before
-StoreCause halt.Memory before now = now ≡ before
+-- the status of a line that ends a run: no call failed
+abbrev pub IsLineStatus : Status → Type 0
+IsLineStatus ended = (ended ≡ status.BadWords) ⊎ (ended ≡ status.BadScript)
 
--- the count of the sink rose where it is blamed; writing blames nothing else
-abbrev pub SinkBlames : Status → ℕ → ℕ → Type 0
-SinkBlames status.Done before now = now ≡ before
-SinkBlames status.Refused before now = now ≡ before
-SinkBlames status.BadWords before now = now ≡ before
-SinkBlames status.BadScript before now = now ≡ before
-SinkBlames status.StoreFailed before now = ⊥
-SinkBlames status.SinkFailed before now = Rose before now
-SinkBlames status.SourceFailed before now = ⊥
-SinkBlames status.NoMemory before now = now ≡ before
-SinkBlames status.NamesFailed before now = ⊥
+abbrev pub EndsByLine : Due → Type 0
+EndsByLine (due.Ends ending) = IsLineStatus ending.status
+EndsByLine (due.Runs statements) = ⊤
+
+-- the line is written, or a failure came before
+abbrev pub EndsRun : Outcome → Option (List ℕ) → Option (List ℕ) → Status → Type 0
+EndsRun ending old new ended = (text : List ℕ) × Appends old new text × ((files : Option Files) → Does (due.Ends ending) files files text ended)
+
+-- the status where a text isn't written
+abbrev pub status_of_fault : SinkFault → Status
+status_of_fault sink.Failed = status.SinkFailed
+status_of_fault sink.Memory = status.NoMemory
+
+-- a statement is run and its text written: the next is run, or the run ends
+abbrev pub RunsOne : ℕ → Statement → Option Files → Option Files → Option (List ℕ) → Option (List ℕ) → Result (Unit {0}) Status → Type 0
+RunsOne number first files files_new old new (Ok _) = (text : List ℕ) × Answers first files (Ok text) files_new × Appends old new text
+RunsOne number first files files_new old new (Err ended) = (text : List ℕ) × Appends old new text × ((more : List Statement) → Runs number (first ∷ more) files files_new text ended)
+
+-- statements are run and their texts written
+abbrev pub RunsAll : List Statement → Option Files → Option Files → Option (List ℕ) → Option (List ℕ) → Status → Type 0
+RunsAll statements files files_new old new ended = (text : List ℕ) × Appends old new text × Runs 1 statements files files_new text ended
+
+-- where the run goes on no count rose
+abbrev pub BlamesOne : Counters → Counters → Result (Unit {0}) Status → Type 0
+BlamesOne before now (Ok _) = now ≡ before
+BlamesOne before now (Err ended) = Blames ended before now

@@ -1,9 +1,11 @@
--- Which bytes are a script, and the table that it names.
-use Rattle.std.specs.Prelude.{ℕ, List, [], ◌∷◌, Bool, true, false, Option, Some, None, length, drop, codes, not, nat_le, ◌==◌, ◌&&◌, ◌||◌, if◌then◌else◌}
+-- Which bytes are a script, and its statements.
+use Rattle.std.specs.Prelude.{ℕ, zero, suc, ◌+◌, List, [], ◌∷◌, Bool, true, false, Option, Some, None, option_map, length, drop, codes, not, nat_le, ◌==◌, ◌&&◌, ◌||◌, if◌then◌else◌}
 use Rattle.std.specs.Char.{is_ascii_alphanumeric}
 use Rattle.std.specs.List.{take_while}
 use Rattle.std.specs.Str.{is_utf8, str_eq_ignore_ascii_case}
 use Rattle.dm_types.specs.Then.{◌>>=◌}
+use Rattle.script_run.specs.declared.statement.Statement.{Statement}
+use Rattle.script_run.specs.declared.statement.Statement.TheVariants as statement
 
 -- space, tab, carriage return and line feed part tokens
 abbrev pub is_white : ℕ → Bool
@@ -57,22 +59,40 @@ table_token (b ∷ rest) = if is_table_byte b && not (begins_comment (b ∷ rest
 abbrev pub is_table_name : List ℕ → Bool
 is_table_name name = nat_le 1 (length name) && nat_le (length name) 100 && not (first_is 46 name)
 
--- a semicolon, and nothing but white space and comments behind it
-abbrev pub ends_script : List ℕ → Bool
-ends_script bytes = first_is 59 bytes && nat_le (length (past_gap (drop 1 bytes))) 0
+-- what stands behind the semicolon in front
+abbrev pub past_semicolon : List ℕ → Option (List ℕ)
+past_semicolon [] = None
+past_semicolon (b ∷ rest) = if b == 59 then Some rest else None
 
-abbrev pub table_before_end : List ℕ → Option (List ℕ)
-table_before_end bytes =
+-- the table in front, and what stands behind the semicolon that ends its statement
+abbrev pub table_and_rest : List ℕ → Option (List ℕ × List ℕ)
+table_and_rest bytes =
     let name = table_token bytes in
-    if is_table_name name && ends_script (past_gap (drop (length name) bytes)) then Some name else None
+    if is_table_name name then option_map (λ rest. (name, rest)) (past_semicolon (past_gap (drop (length name) bytes))) else None
 
--- the table of `SHOW FILES table ;`
-abbrev pub shown_table : List ℕ → Option (List ℕ)
+-- the statement `SHOW FILES table ;` in front: its table, and what stands behind it
+abbrev pub shown_table : List ℕ → Option (List ℕ × List ℕ)
 shown_table bytes = do
-  behind_show ← past_word (codes "SHOW") (past_gap bytes)
+  behind_show ← past_word (codes "SHOW") bytes
   behind_files ← past_word (codes "FILES") (past_gap behind_show)
-  table_before_end (past_gap behind_files)
+  table_and_rest (past_gap behind_files)
 
--- a script is UTF-8 text
-unfoldable pub table_of : List ℕ → Option (List ℕ)
-table_of script = if is_utf8 script then shown_table script else None
+-- the statement in front, and what stands behind it
+unfoldable pub statement_of : List ℕ → Option (Statement × List ℕ)
+statement_of bytes = option_map (λ shown. (statement.ShowFiles shown.0, shown.1)) (shown_table bytes)
+
+-- nothing but a gap is left, or a statement and more
+abbrev pub with_statement : List ℕ → (List ℕ → Option (List Statement)) → Option (List Statement)
+with_statement [] more = Some []
+with_statement (b ∷ rest) more = do
+  found ← statement_of (b ∷ rest)
+  option_map (λ statements. found.0 ∷ statements) (more found.1)
+
+-- the statements up to the end, read in fewer steps than this number
+unfoldable pub statements_in : ℕ → List ℕ → Option (List Statement)
+statements_in zero bytes = None
+statements_in (suc steps) bytes = with_statement (past_gap bytes) (statements_in steps)
+
+-- a script is UTF-8 text; each of its statements takes a byte at least, so there are steps enough
+unfoldable pub statements_of : List ℕ → Option (List Statement)
+statements_of script = if is_utf8 script then statements_in (length script + 1) script else None

@@ -8,10 +8,6 @@ use Rattle.dm_types.specs.Then.{go}
 use Rattle.script_run.specs.Log.{log_of, commits_of}
 use Rattle.script_run.specs.Live.{live_paths}
 
--- a text, or the refusal
-abbrev pub Answer : Type 0
-Answer = Result (List ℕ) TableRefusal
-
 -- a backslash, tab, line feed and carriage return are written `\\`, `\t`, `\n`, `\r`
 abbrev pub escaped : ℕ → List ℕ
 escaped b =
@@ -30,5 +26,5 @@ abbrev pub path_lines : List (List ℕ) → List ℕ
 path_lines paths = flat_map (λ path. field path ++ 10 ∷ []) paths
 
 -- the paths as logged, in byte order
-unfoldable pub show_files : List ℕ → Files → Answer
+unfoldable pub show_files : List ℕ → Files → Result (List ℕ) TableRefusal
 show_files table files = go (commits_of (log_of table files)) (λ commits. Ok (path_lines (in_byte_order (live_paths commits))))

@@ -1,9 +1,11 @@
--- How a script is spelled: which bytes show the files of which table.
+-- How a script is spelled: which bytes are which statements.
 use Rattle.std.specs.Prelude.{ℕ, ◌≡◌, ◌≢◌, ◌≤◌, List, [], ◌∷◌, ◌++◌, Some, IsTrue, IsUtf8, length, codes}
 use Rattle.std.specs.List.{All, AllPass, slice_get}
 use Rattle.std.specs.Option.{ForSome}
 use Rattle.std.specs.Str.{str_eq_ignore_ascii_case}
 use Rattle.script_run.specs.Script.{is_white, is_word_byte, is_table_byte}
+use Rattle.script_run.specs.declared.statement.Statement.{Statement}
+use Rattle.script_run.specs.declared.statement.Statement.TheVariants as statement
 
 -- bytes other than a line feed
 abbrev pub IsLine : List ℕ → Type 0
@@ -31,25 +33,35 @@ pub record IsTableName (name : List ℕ) : Type 0 where
   pub signs : AllPass is_table_byte name
   pub no_point : slice_get name 0 ≢ Some 46
 
--- the bytes spell `SHOW FILES table ;`
-pub record SpellsScript (bytes table : List ℕ) : Type 0 where
+-- the bytes spell `SHOW FILES table ;`, with more behind it
+pub record SpellsShowFiles (bytes table behind : List ℕ) : Type 0 where
   pub before_show : List ℕ
   pub show : List ℕ
   pub before_files : List ℕ
   pub files : List ℕ
   pub before_table : List ℕ
   pub before_end : List ℕ
-  pub behind : List ℕ
-  -- these parts in turn, with a semicolon, are the bytes, which are text
+  -- these parts in turn, with a semicolon, are the bytes
   pub parts : bytes ≡ before_show ++ show ++ before_files ++ files ++ before_table ++ table ++ before_end ++ 59 ∷ behind
-  pub text : IsUtf8 bytes
   pub show_word : IsWord (codes "SHOW") show
   pub files_word : IsWord (codes "FILES") files
   pub name : IsTableName table
   pub gaps : IsGap before_show × IsGap before_files × IsGap before_table × IsGap before_end
-  pub last_gap : IsLastGap behind
   -- a word is a longest run of letters, digits and `_`: a gap ends it, or the first byte of the name
   pub apart : before_files ≢ []
   pub apart_name : before_table ≡ [] → ForSome (slice_get table 0) (λ b. ¬ (IsTrue (is_word_byte b)))
   -- two hyphens in a row begin a comment, so none begin before the end of the name
   pub whole : (front rest : List ℕ) → table ++ before_end ≡ front ++ 45 ∷ 45 ∷ rest → length table ≤ length front
+
+-- the bytes spell this statement, with more behind it: each kind of statement is a case
+abbrev pub SpellsStatement : List ℕ → Statement → List ℕ → Type 0
+SpellsStatement bytes (statement.ShowFiles table) behind = SpellsShowFiles bytes table behind
+
+-- the bytes spell these statements, one behind the other
+pub data SpellsStatements : List ℕ → List Statement → Type 0 where
+  no_statement : (bytes : List ℕ) → IsLastGap bytes → SpellsStatements bytes []
+  a_statement : (bytes : List ℕ) (first : Statement) (behind : List ℕ) (more : List Statement) → SpellsStatement bytes first behind → SpellsStatements behind more → SpellsStatements bytes (first ∷ more)
+
+-- the bytes are text, and spell these statements
+abbrev pub SpellsScript : List ℕ → List Statement → Type 0
+SpellsScript bytes statements = IsUtf8 bytes × SpellsStatements bytes statements

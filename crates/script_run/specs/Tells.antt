@@ -1,5 +1,6 @@
 -- What a call over a store answers, where the store tells its files.
 use Rattle.std.specs.Prelude.{◌≡◌, Option, Result, Ok, Err, ⊤}
+use Rattle.dm_types.specs.declared.refusal.Refused.{Refused}
 use Rattle.dm_store.specs.Files.{Files, WhereTold}
 use Rattle.dm_types.specs.declared.refusal.Refused.TheVariants as refused
 use Rattle.dm_types.specs.declared.refusal.Stop.{Stop}
@@ -12,3 +13,8 @@ Tells told meaning (Ok value) = WhereTold told (λ files. meaning files ≡ Ok v
 Tells told meaning (Err (stop.Refused (refused.Table refusal))) = WhereTold told (λ files. meaning files ≡ Err refusal)
 Tells told meaning (Err stop.Store) = ⊤
 Tells told meaning (Err stop.Memory) = ⊤
+
+-- the refusal of a table as that of a statement
+abbrev pub of_table : {A : Type 0} → Result A TableRefusal → Result A Refused
+of_table (Ok value) = Ok value
+of_table (Err refusal) = Err (refused.Table refusal)

@@ -1,13 +1,11 @@
-// Why a run ends before it has an outcome.
+// Why a run doesn't come to its statements.
 ghost use Rattle.std.specs.Prelude.{◌≡◌};
 
 use std::alloc::AllocError;
 
-/// Why a run ends before it has an outcome.
+/// Why a run doesn't come to its statements.
 #[derive(Clone, Copy, Debug, PartialEq, Eq)]
-pub enum Halt {
-    /// A call of the store failed.
-    Store,
+pub(crate) enum Halt {
     /// A call of the source failed.
     Source,
     /// There was no memory.

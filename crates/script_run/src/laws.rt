@@ -1,13 +1,14 @@
 // What is read of a script, and how a script is spelled.
-ghost use Rattle.std.specs.Prelude.{◌≡◌, ℕ, List, Some};
-ghost use Rattle.script_run.specs.Script.{table_of};
+ghost use Rattle.std.specs.Prelude.{◌≡◌, List, Some};
+ghost use Rattle.script_run.specs.declared.statement.Statement.{Statement as AStatement};
+ghost use Rattle.script_run.specs.Script.{statements_of};
 ghost use Rattle.script_run.specs.Spelling.{SpellsScript};
 
-/// A law: the table that is read from a script is the one that its bytes spell, and a table that
-/// bytes spell is read. So no bytes spell scripts of two tables.
+/// A law: the statements that are read from a script are those that its bytes spell, and statements
+/// that bytes spell are read. So no bytes spell two scripts.
 pub fn script_spelled(script: &[u8])
-    ensures found { (table : List ℕ) → table_of script.now ≡ Some table
-        → SpellsScript script.now table }
-    ensures spelled { (table : List ℕ) → SpellsScript script.now table
-        → table_of script.now ≡ Some table }
+    ensures found { (statements : List AStatement) → statements_of script.now ≡ Some statements
+        → SpellsScript script.now statements }
+    ensures spelled { (statements : List AStatement) → SpellsScript script.now statements
+        → statements_of script.now ≡ Some statements }
 {}

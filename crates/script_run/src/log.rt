@@ -76,7 +76,7 @@ fn newest_version(versions: &BTreeSet<u64>) -> Result<u64, Stop>
     };
     for version in 0..*newest {
         if !versions.contains(&version) {
-            return Err(refused(TableRefusal::LogGap { version: 0 }));
+            return Err(refused(TableRefusal::LogGap { version }));
         }
     }
     Ok(*newest)
@@ -120,13 +120,12 @@ fn read_commit_file<S: Store>(
     match store.read(alloc, path.as_str()) {
         Ok(bytes) => match read_commit(alloc, bytes.as_slice()) {
             Ok(actions) => Ok(actions),
-            Err(ActionFault::BadAction { .. }) => Err(refused(TableRefusal::BadAction {
-                version: 0,
-                line: 0,
-            })),
+            Err(ActionFault::BadAction { line }) => {
+                Err(refused(TableRefusal::BadAction { version, line }))
+            }
             Err(ActionFault::Memory) => Err(Stop::Memory),
         },
-        Err(ReadFault::Absent) => Err(refused(TableRefusal::LogGap { version: 0 })),
+        Err(ReadFault::Absent) => Err(refused(TableRefusal::LogGap { version })),
         Err(ReadFault::Failed) => Err(Stop::Store),
         Err(ReadFault::Memory) => Err(Stop::Memory),
     }

@@ -1,23 +1,33 @@
-// What a run ends with: a status, and the text that is written with it.
+// What a run has to do: a line that ends it, or statements.
 ghost use Rattle.std.specs.Prelude.{◌≡◌, IfOk};
 ghost use Rattle.script_run.specs.Outcome as spec;
+ghost use Rattle.dm_types.specs.Refusal.{refused_cause};
 
+use crate::statement::Statements;
 use crate::status::Status;
 use dm_types::{Bytes, Refused};
 use std::alloc::{AllocError, Global};
 
-/// A status and its text.
+/// A line, and the status with which it ends the run.
 #[derive(Debug, Drop)]
 pub struct Outcome {
-    /// How the run ends, once the text is written.
+    /// How the run ends, once the line is written.
     pub status: Status,
-    /// A statement's text, or a line.
+    /// The line.
     pub text: Bytes,
+}
+
+/// What a run has to do, by its words and its script.
+#[derive(Debug, Drop)]
+pub enum Due {
+    /// To end with a line.
+    Ends(Outcome),
+    /// To run statements.
+    Runs(Statements),
 }
 
 impl Outcome {
     ghost use Rattle.std.specs.Prelude.{◌≡◌, IfOk, codes};
-    ghost use Rattle.dm_types.specs.Refusal.{refused_cause};
     ghost use Rattle.script_run.specs.Outcome as spec;
     ghost use Rattle.script_run.specs.declared.status.Status.TheVariants as status;
 
@@ -51,17 +61,14 @@ impl Outcome {
             text: refused_line(alloc, 0, "P1 0")?,
         })
     }
+}
 
-    /// The only statement is refused.
-    pub(crate) fn refused(alloc: Global, why: &Refused) -> Result<Outcome, AllocError>
-        ensures { IfOk result (λ it. it ≡ spec.ending status.Refused (spec.refused_line 1 (refused_cause why.now))) }
-    {
-        let cause = why.to_string(alloc)?;
-        Ok(Outcome {
-            status: Status::Refused,
-            text: refused_line(alloc, 1, cause.as_str())?,
-        })
-    }
+/// The line of a refused statement, which has this number from 1.
+pub(crate) fn refusal_line(alloc: Global, number: u64, why: &Refused) -> Result<Bytes, AllocError>
+    ensures { IfOk result (λ line. line ≡ spec.refused_line number (refused_cause why.now)) }
+{
+    let cause = why.to_string(alloc)?;
+    refused_line(alloc, number, cause.as_str())
 }
 
 // The line of a refusal: the statement's number from 1, or 0 for the script, and the cause.

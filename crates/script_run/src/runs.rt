@@ -1,17 +1,18 @@
 // The top call.
 ghost use Rattle.std.specs.Prelude.{◌≡◌, ◌≤◌, IfOk};
 ghost use Rattle.dm_store.specs.Causes.{Counts};
-ghost use Rattle.script_run.specs.Reaching.{Answers, Reaches, ReadsBefore, SourceCause, StoreCause, IsEnding, SinkBlames};
-ghost use Rattle.script_run.specs.Ran.{Counters, Blames, WritesDue, ReadsSource, Finishes, status_of};
+ghost use Rattle.script_run.specs.Outcome as spec;
+ghost use Rattle.script_run.specs.Reaching.{Reaches, ReadsBefore, SourceCause, IsLineStatus, EndsByLine, EndsRun};
+ghost use Rattle.script_run.specs.Script.{statements_of as script_statements};
+ghost use Rattle.script_run.specs.Ran.{Counters, Blames, Ran, ReadsSource, status_of};
 
 use crate::halt::Halt;
-use crate::outcome::Outcome;
-use crate::script::table_of;
-use crate::shown::show_files;
+use crate::outcome::{Due, Outcome};
+use crate::script::statements_of;
+use crate::statements::run_statements;
 use crate::status::Status;
-use dm_store::{Clock, NameSource, Sink, SinkFault, Source, Store, TakeFault, take_all};
-use dm_types::{Stop, Text};
-use std::alloc::Global;
+use dm_store::{Clock, NameSource, Sink, Source, Store, TakeFault, take_all};
+use std::alloc::{AllocError, Global};
 
 /// The longest script, in bytes.
 const MAX_SCRIPT: usize = 1_048_576;
@@ -19,10 +20,11 @@ const MAX_SCRIPT: usize = 1_048_576;
 /// Runs a script on the tables of a store, and returns the exit status: the number of a [`Status`].
 ///
 /// `words` are the words after the program's name; none is accepted yet. The script is read from its
-/// source to the end, at most 1,048,576 bytes of it, and then its statement is run. One text goes to
-/// `out` in one piece: the statement's, the line of a refusal, or the usage line. A failed call, or
-/// want of memory, ends the run with nothing more written; a failed write may leave a front of the
-/// text. The clock and the names aren't asked yet.
+/// source to the end, at most 1,048,576 bytes of it, and then its statements are run in turn. The
+/// text of each goes to `out` in one piece. The first refusal ends the run, its line written in the
+/// same way, as does the usage line. A failed call, or want of memory, ends the run with nothing
+/// more written; a failed write may leave a front of its text. The clock and the names aren't asked
+/// yet.
 pub fn run<I: Source, S: Store, K: Sink, C: Clock, N: NameSource>(
     alloc: Global,
     words: &[String],
@@ -36,18 +38,18 @@ pub fn run<I: Source, S: Store, K: Sink, C: Clock, N: NameSource>(
     ensures blame { let before : Counters = record { store = S.faults store.old; sink = K.faults out.old; source = I.faults script.old; names = N.faults names.old } in
         let now : Counters = record { store = S.faults store.new; sink = K.faults out.new; source = I.faults script.new; names = N.faults names.new } in
         Blames (status_of result) before now }
-    ensures writes { WritesDue (status_of result) words.now (I.left script.old) (S.files store.old) (K.written out.old) (K.written out.new) }
+    ensures ran { Ran words.now (I.left script.old) (S.files store.old) (S.files store.new) (K.written out.old) (K.written out.new) (status_of result) }
     ensures reads { ReadsSource (status_of result) (I.left script.old) (I.left script.new) }
     ensures files { S.files store.new ≡ S.files store.old }
     ensures taken { S.taken store.new ≡ S.taken store.old }
     ensures clock { clock.new ≡ clock.old }
     ensures names { names.new ≡ names.old }
 {
-    run_script(alloc, words, script, store, out).code()
+    run_words(alloc, words, script, store, out).code()
 }
 
 // The run, up to its status.
-fn run_script<I: Source, S: Store, K: Sink>(
+fn run_words<I: Source, S: Store, K: Sink>(
     alloc: Global,
     words: &[String],
     script: &mut I,
@@ -57,75 +59,58 @@ fn run_script<I: Source, S: Store, K: Sink>(
     ensures blame { let before : Counters = record { store = S.faults store.old; sink = K.faults out.old; source = I.faults script.old; names = 0 } in
         let now : Counters = record { store = S.faults store.new; sink = K.faults out.new; source = I.faults script.new; names = 0 } in
         Blames result before now }
-    ensures writes { WritesDue result words.now (I.left script.old) (S.files store.old) (K.written out.old) (K.written out.new) }
+    ensures ran { Ran words.now (I.left script.old) (S.files store.old) (S.files store.new) (K.written out.old) (K.written out.new) result }
     ensures reads { ReadsSource result (I.left script.old) (I.left script.new) }
     ensures files { S.files store.new ≡ S.files store.old }
     ensures taken { S.taken store.new ≡ S.taken store.old }
 {
-    match reach_outcome(alloc, words, script, store) {
-        Ok(due) => write(out, &due),
-        Err(Halt::Store) => Status::StoreFailed,
+    match what_is_due(alloc, words, script) {
+        Ok(Due::Ends(outcome)) => end(out, &outcome),
+        Ok(Due::Runs(statements)) => run_statements(alloc, store, out, &statements),
         Err(Halt::Source) => Status::SourceFailed,
         Err(Halt::Memory) => Status::NoMemory,
     }
 }
 
-// The outcome that is due: by the words first, then by the script, then by its statement.
-fn reach_outcome<I: Source, S: Store>(
-    alloc: Global,
-    words: &[String],
-    script: &mut I,
-    store: &mut S,
-) -> Result<Outcome, Halt>
-    ensures outcome { Reaches words.now (I.left script.old) (S.files store.old) result }
-    ensures ending { IfOk result (λ due. IsEnding due.status) }
+// What the words and the script make due.
+fn what_is_due<I: Source>(alloc: Global, words: &[String], script: &mut I) -> Result<Due, Halt>
+    ensures due { Reaches words.now (I.left script.old) result }
+    ensures line { IfOk result EndsByLine }
     ensures reads { ReadsBefore result (I.left script.old) (I.left script.new) }
-    ensures files { S.files store.new ≡ S.files store.old }
-    ensures taken { S.taken store.new ≡ S.taken store.old }
-    ensures source { Counts SourceCause (I.faults script.old) (I.faults script.new) result }
-    ensures store { Counts StoreCause (S.faults store.old) (S.faults store.new) result }
+    ensures cause { Counts SourceCause (I.faults script.old) (I.faults script.new) result }
 {
     if !words.is_empty() {
-        return Ok(Outcome::usage(alloc)?);
+        return Ok(Due::Ends(Outcome::usage(alloc)?));
     }
     match take_all(alloc, script, MAX_SCRIPT) {
-        Ok(text) => match table_of(alloc, text.as_slice())? {
-            Some(table) => answer_statement(alloc, store, &table),
-            None => Ok(Outcome::bad_script(alloc)?),
-        },
-        Err(TakeFault::TooLong) => Ok(Outcome::too_long(alloc)?),
+        Ok(text) => Ok(due_of_script(alloc, text.as_slice())?),
+        Err(TakeFault::TooLong) => Ok(Due::Ends(Outcome::too_long(alloc)?)),
         Err(TakeFault::Failed) => Err(Halt::Source),
         Err(TakeFault::Memory) => Err(Halt::Memory),
     }
 }
 
-// The outcome of the only statement.
-fn answer_statement<S: Store>(alloc: Global, store: &mut S, table: &Text) -> Result<Outcome, Halt>
-    ensures outcome { Answers table.now (S.files store.old) result }
-    ensures files { S.files store.new ≡ S.files store.old }
-    ensures taken { S.taken store.new ≡ S.taken store.old }
-    ensures cause { Counts StoreCause (S.faults store.old) (S.faults store.new) result }
+// What a script that isn't too long makes due.
+fn due_of_script(alloc: Global, script: &[u8]) -> Result<Due, AllocError>
+    ensures due { IfOk result (λ what. what ≡ spec.due_of_script (script_statements script.now)) }
+    ensures line { IfOk result EndsByLine }
 {
-    match show_files(alloc, store, table) {
-        Ok(text) => Ok(Outcome {
-            status: Status::Done,
-            text,
-        }),
-        Err(Stop::Refused(why)) => Ok(Outcome::refused(alloc, &why)?),
-        Err(Stop::Store) => Err(Halt::Store),
-        Err(Stop::Memory) => Err(Halt::Memory),
+    match statements_of(alloc, script)? {
+        Some(statements) => Ok(Due::Runs(statements)),
+        None => Ok(Due::Ends(Outcome::bad_script(alloc)?)),
     }
 }
 
-// Writes what is due, in one piece.
-fn write<K: Sink>(out: &mut K, due: &Outcome) -> Status
-    requires { IsEnding due.now.status }
-    ensures finishes { Finishes result due.now (K.written out.old) (K.written out.new) }
-    ensures cause { SinkBlames result (K.faults out.old) (K.faults out.new) }
+// Writes the line that ends the run.
+fn end<K: Sink>(out: &mut K, outcome: &Outcome) -> Status
+    requires { IsLineStatus outcome.now.status }
+    ensures ends { EndsRun outcome.now (K.written out.old) (K.written out.new) result }
+    ensures blame { let before : Counters = record { store = 0; sink = K.faults out.old; source = 0; names = 0 } in
+        let now : Counters = record { store = 0; sink = K.faults out.new; source = 0; names = 0 } in
+        Blames result before now }
 {
-    match out.put(due.text.as_slice()) {
-        Ok(()) => due.status,
-        Err(SinkFault::Failed) => Status::SinkFailed,
-        Err(SinkFault::Memory) => Status::NoMemory,
+    match out.put(outcome.text.as_slice()) {
+        Ok(()) => outcome.status,
+        Err(fault) => Status::from(fault),
     }
 }

@@ -1,22 +1,52 @@
 // Reading a script.
-ghost use Rattle.std.specs.Prelude.{◌≡◌, ◌≤◌, length, take, true, false, IfOk, IfSome};
+ghost use Rattle.std.specs.Prelude.{◌≡◌, ◌≤◌, ◌+◌, length, take, true, false, IfOk, IfSome, option_map};
 ghost use Rattle.std.specs.List.{take_while};
 ghost use Rattle.std.specs.Option.{option_copied};
 ghost use Rattle.std.specs.Str.{IsAscii, is_utf8, str_eq_ignore_ascii_case};
 ghost use Rattle.script_run.specs.Script as spec;
 
+use crate::statement::{Statement, Statements};
 use dm_types::{Bytes, Text};
 use std::alloc::{AllocError, Global};
 
-/// The table of the script `SHOW FILES table ;`, or `None` where the bytes are no such script.
-pub(crate) fn table_of(alloc: Global, script: &[u8]) -> Result<Option<Text>, AllocError>
-    ensures { IfOk result (λ table. table ≡ spec.table_of script.now) }
+/// The statements of a script, or `None` where the bytes are no script.
+pub(crate) fn statements_of(alloc: Global, script: &[u8]) -> Result<Option<Statements>, AllocError>
+    ensures { IfOk result (λ statements. statements ≡ spec.statements_of script.now) }
 {
-    if !is_text(script) {
-        return Ok(None);
+    if is_text(script) {
+        read_statements(alloc, script)
+    } else {
+        Ok(None)
     }
-    match shown_table(script) {
-        Some(name) => Ok(Text::from_utf8(Bytes::from_slice(alloc, name)?)),
+}
+
+// The statements of a text.
+fn read_statements(alloc: Global, text: &[u8]) -> Result<Option<Statements>, AllocError>
+    ensures { IfOk result (λ statements. statements ≡ spec.statements_in (length text.now + 1) text.now) }
+{
+    let mut statements = Statements::new(alloc);
+    let mut rest = past_gap(text);
+    while !rest.is_empty() {
+        match front_statement(alloc, rest)? {
+            Some((statement, behind)) => {
+                statements.push(statement)?;
+                rest = past_gap(behind);
+            }
+            None => return Ok(None),
+        }
+    }
+    Ok(Some(statements))
+}
+
+// The statement in front, and what stands behind it.
+fn front_statement(alloc: Global, bytes: &[u8]) -> Result<Option<(Statement, &[u8])>, AllocError>
+    ensures { IfOk result (λ found. option_map (λ it. (it.0, it.1.now)) found ≡ spec.statement_of bytes.now) }
+{
+    match shown_table(bytes) {
+        Some((name, behind)) => match Text::from_utf8(Bytes::from_slice(alloc, name)?) {
+            Some(table) => Ok(Some((Statement::ShowFiles { table }, behind))),
+            None => Ok(None),
+        },
         None => Ok(None),
     }
 }
@@ -28,27 +58,27 @@ fn is_text(bytes: &[u8]) -> bool
     std::str::from_utf8(bytes).is_ok()
 }
 
-// The table of the statement, whatever stands in its comments.
-fn shown_table(script: &[u8]) -> Option<&[u8]>
-    ensures name { option_copied result ≡ spec.shown_table script.now }
-    ensures ascii { IfSome result (λ name. IsAscii name.now) }
+// The table of `SHOW FILES table ;` in front, and what stands behind it.
+fn shown_table(bytes: &[u8]) -> Option<(&[u8], &[u8])>
+    ensures shown { option_map (λ found. (found.0.now, found.1.now)) result ≡ spec.shown_table bytes.now }
+    ensures ascii { IfSome result (λ found. IsAscii found.0.now) }
 {
-    let behind_show = past_word(b"SHOW", past_gap(script))?;
+    let behind_show = past_word(b"SHOW", bytes)?;
     let behind_files = past_word(b"FILES", past_gap(behind_show))?;
-    table_before_end(past_gap(behind_files))
+    table_and_rest(past_gap(behind_files))
 }
 
-// The name in front, where the script ends behind it.
-fn table_before_end(bytes: &[u8]) -> Option<&[u8]>
-    ensures name { option_copied result ≡ spec.table_before_end bytes.now }
-    ensures ascii { IfSome result (λ name. IsAscii name.now) }
+// The name in front, and what stands behind the semicolon that ends its statement.
+fn table_and_rest(bytes: &[u8]) -> Option<(&[u8], &[u8])>
+    ensures shown { option_map (λ found. (found.0.now, found.1.now)) result ≡ spec.table_and_rest bytes.now }
+    ensures ascii { IfSome result (λ found. IsAscii found.0.now) }
 {
     let name = table_token(bytes);
-    if is_table_name(name) && ends_script(past_gap(&bytes[name.len()..])) {
-        Some(name)
-    } else {
-        None
+    if !is_table_name(name) {
+        return None;
     }
+    let rest = past_semicolon(past_gap(&bytes[name.len()..]))?;
+    Some((name, rest))
 }
 
 // Letters, digits and `_` make a word.
@@ -161,12 +191,12 @@ fn is_table_name(name: &[u8]) -> bool
     name.len() >= 1 && name.len() <= 100 && name.first() != Some(&b'.')
 }
 
-// A semicolon, with nothing but white space and comments behind it.
-fn ends_script(bytes: &[u8]) -> bool
-    ensures { result ≡ spec.ends_script bytes.now }
+// What stands behind the semicolon in front.
+fn past_semicolon(bytes: &[u8]) -> Option<&[u8]>
+    ensures { option_copied result ≡ spec.past_semicolon bytes.now }
 {
     match bytes {
-        [b';', rest @ ..] => past_gap(rest).is_empty(),
-        _ => false,
+        [b';', rest @ ..] => Some(rest),
+        _ => None,
     }
 }

@@ -1,6 +1,9 @@
 // How a run ends.
 ghost use Rattle.std.specs.Prelude.{◌≡◌};
 
+use dm_store::SinkFault;
+use std::alloc::AllocError;
+
 /// How a run ended. Its number is the exit status of the program.
 #[derive(Clone, Copy, Debug, PartialEq, Eq)]
 pub enum Status {
@@ -32,5 +35,28 @@ impl Status {
         ensures { result ≡ code_of self }
     {
         self as u8
+    }
+}
+
+impl From<AllocError> for Status {
+    ghost use Rattle.script_run.specs.declared.status.Status.TheVariants.{NoMemory};
+
+    ghost from_gives = { λ _ e. e ≡ NoMemory };
+
+    fn from(_: AllocError) -> Status {
+        Status::NoMemory
+    }
+}
+
+impl From<SinkFault> for Status {
+    ghost use Rattle.script_run.specs.Reaching.{status_of_fault};
+
+    ghost from_gives = { λ fault e. e ≡ status_of_fault fault };
+
+    fn from(fault: SinkFault) -> Status {
+        match fault {
+            SinkFault::Failed => Status::SinkFailed,
+            SinkFault::Memory => Status::NoMemory,
+        }
     }
 }

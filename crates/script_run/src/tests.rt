@@ -81,7 +81,7 @@ fn check(rt: &(impl Abort + AllocGlobal), case: &Case) -> Result<(), Fail> {
 }
 
 // Replay, gaps and bad lines; the order of removes and adds; what is printed.
-const LOGS: [Case; 11] = [
+const LOGS: [Case; 15] = [
     Case {
         files: &[
             (
@@ -98,13 +98,20 @@ const LOGS: [Case; 11] = [
         files: &[(ZERO, ""), (ONE, ""), (THREE, "")],
         script: "SHOW FILES t;",
         status: 1,
-        text: "refused 1: O2 0\n",
+        text: "refused 1: O2 2\n",
     },
     Case {
         files: &[(ZERO, ""), (ONE, "{\"txn\":{}}\n{\n")],
         script: "SHOW FILES t;",
         status: 1,
-        text: "refused 1: O3 0 0\n",
+        text: "refused 1: O3 1 2\n",
+    },
+    // Lines are counted with the blank ones; the first bad line of the first bad version is named.
+    Case {
+        files: &[(ZERO, ""), (ONE, "\n \t\r\n\n{\n{"), (TWO, "{")],
+        script: "SHOW FILES t;",
+        status: 1,
+        text: "refused 1: O3 1 4\n",
     },
     Case {
         files: &[],
@@ -185,7 +192,7 @@ const LOGS: [Case; 11] = [
         files: &[(ZERO, "{"), (TWO, "")],
         script: "SHOW FILES t;",
         status: 1,
-        text: "refused 1: O2 0\n",
+        text: "refused 1: O2 1\n",
     },
     // The removes of a version count before its adds, whatever the order of the lines.
     Case {
@@ -248,7 +255,33 @@ const LOGS: [Case; 11] = [
         files: &[(ZERO, ""), ("t/_delta_log/09223372036854775807.json", "")],
         script: "SHOW FILES t;",
         status: 1,
+        text: "refused 1: O2 1\n",
+    },
+    // The first version is missing.
+    Case {
+        files: &[(ONE, "")],
+        script: "SHOW FILES t;",
+        status: 1,
         text: "refused 1: O2 0\n",
+    },
+    // Statement after statement; the first refusal ends the run, by the number of its statement.
+    Case {
+        files: &[
+            (ZERO, "{\"add\":{\"path\":\"a\"}}"),
+            (
+                "u/_delta_log/00000000000000000000.json",
+                "{\"add\":{\"path\":\"b\"}}",
+            ),
+        ],
+        script: "SHOW FILES t; SHOW FILES u;\nSHOW FILES t;",
+        status: 0,
+        text: "a\nb\na\n",
+    },
+    Case {
+        files: &[(ZERO, "{\"add\":{\"path\":\"a\"}}")],
+        script: "SHOW FILES t;SHOW FILES t;SHOW FILES u;SHOW FILES t;SHOW FILES v;",
+        status: 1,
+        text: "a\na\nrefused 3: O1\n",
     },
     // No live file is left.
     Case {
@@ -271,7 +304,7 @@ fn shows_the_live_files(rt: HostRuntime) -> Result<(), Fail> {
 }
 
 // Scripts over an empty store: a script of the grammar is refused for want of a table.
-const SCRIPTS: [(&str, &str); 23] = [
+const SCRIPTS: [(&str, &str); 28] = [
     ("SHOW FILES t;", "refused 1: O1\n"),
     ("show files t ;", "refused 1: O1\n"),
     (
@@ -281,10 +314,18 @@ const SCRIPTS: [(&str, &str); 23] = [
     ("SHOW FILES FILES;", "refused 1: O1\n"),
     ("SHOW FILES-t;", "refused 1: O1\n"),
     ("SHOW FILES--c\nt--c\n;", "refused 1: O1\n"),
-    ("", "refused 0: P1 0\n"),
+    ("", ""),
+    (" --SHOW FILES t;", ""),
+    ("SHOW FILES t;SHOW FILES u;", "refused 1: O1\n"),
+    ("SHOW FILES t;--\n SHOW FILES u;--", "refused 1: O1\n"),
     ("SHOW FILES t", "refused 0: P1 0\n"),
     ("SHOW FILES t;;", "refused 0: P1 0\n"),
-    ("SHOW FILES t; SHOW FILES t;", "refused 0: P1 0\n"),
+    ("SHOW FILES t; SHOW FILES", "refused 0: P1 0\n"),
+    (
+        "SHOW FILES t; SHOW FILES u SHOW FILES t;",
+        "refused 0: P1 0\n",
+    ),
+    (";", "refused 0: P1 0\n"),
     ("SHOW FILES t --;", "refused 0: P1 0\n"),
     ("SHOWFILES t;", "refused 0: P1 0\n"),
     ("SHOW FILESt;", "refused 0: P1 0\n"),
@@ -318,67 +359,139 @@ fn reads_scripts(rt: HostRuntime) -> Result<(), Fail> {
     assert!(rt;
         ran(rt.alloc(), &[], &NONE, &[], bad)?.1.as_slice() == "refused 0: P1 0\n".as_bytes()
     );
-    for (length, text) in [
-        (1_048_576, "refused 0: P1 0\n"),
-        (1_048_577, "refused 0: P2\n"),
-    ] {
+    for (length, ended, text) in [(1_048_576, 0, ""), (1_048_577, 3, "refused 0: P2\n")] {
         let spaces = Bytes::from_vec(vec![in rt.alloc(); b' '; length]?);
         let (status, written) = ran(rt.alloc(), &[], &NONE, &[], spaces)?;
-        assert!(rt; status == 3);
+        assert!(rt; status == ended);
         assert!(rt; written.as_slice() == text.as_bytes());
     }
     Ok(())
 }
 
-// A word, and a first call that fails at each object.
+// The call that fails, and the status and text of the run.
+struct Fault {
+    failing: Failing,
+    status: u8,
+    text: &'static str,
+}
+
+// Each call of the run fails in turn. The first call of the store is the put before the run; then
+// each statement lists and reads. The source gives the script at its first call, and its end at the
+// second. A call that isn't made fails nothing.
+const FAULTS: [Fault; 10] = [
+    Fault {
+        failing: Failing {
+            source: &[1],
+            ..NONE
+        },
+        status: 6,
+        text: "",
+    },
+    Fault {
+        failing: Failing {
+            source: &[2],
+            ..NONE
+        },
+        status: 6,
+        text: "",
+    },
+    Fault {
+        failing: Failing {
+            source: &[3],
+            ..NONE
+        },
+        status: 0,
+        text: "a\na\n",
+    },
+    Fault {
+        failing: Failing {
+            store: &[2],
+            ..NONE
+        },
+        status: 4,
+        text: "",
+    },
+    Fault {
+        failing: Failing {
+            store: &[3],
+            ..NONE
+        },
+        status: 4,
+        text: "",
+    },
+    Fault {
+        failing: Failing {
+            store: &[4],
+            ..NONE
+        },
+        status: 4,
+        text: "a\n",
+    },
+    Fault {
+        failing: Failing {
+            store: &[5],
+            ..NONE
+        },
+        status: 4,
+        text: "a\n",
+    },
+    Fault {
+        failing: Failing {
+            store: &[6],
+            sink: &[3],
+            ..NONE
+        },
+        status: 0,
+        text: "a\na\n",
+    },
+    Fault {
+        failing: Failing { sink: &[1], ..NONE },
+        status: 5,
+        text: "",
+    },
+    Fault {
+        failing: Failing { sink: &[2], ..NONE },
+        status: 5,
+        text: "a\n",
+    },
+];
+
 #[test]
 fn ends_with_the_status_of_a_fault(rt: HostRuntime) -> Result<(), Fail> {
     let files: &[File] = &[(ZERO, "{\"add\":{\"path\":\"a\"}}")];
-    for (failing, status) in [
-        (
-            Failing {
-                source: &[1],
-                ..NONE
-            },
-            6,
-        ),
-        (
-            Failing {
-                source: &[2],
-                ..NONE
-            },
-            6,
-        ),
-        (
-            Failing {
-                store: &[2],
-                ..NONE
-            },
-            4,
-        ),
-        (
-            Failing {
-                store: &[3],
-                ..NONE
-            },
-            4,
-        ),
-        (Failing { sink: &[1], ..NONE }, 5),
-    ] {
-        let script = Bytes::from_slice(rt.alloc(), b"SHOW FILES t;")?;
-        let (ended, written) = ran(rt.alloc(), files, &failing, &[], script)?;
-        assert!(rt; ended == status);
+    for fault in &FAULTS {
+        let script = Bytes::from_slice(rt.alloc(), b"SHOW FILES t;SHOW FILES t;")?;
+        let (status, written) = ran(rt.alloc(), files, &fault.failing, &[], script)?;
+        assert!(rt; status == fault.status);
+        assert!(rt; written.as_slice() == fault.text.as_bytes());
+    }
+    Ok(())
+}
+
+// A line that ends the run is written by the sink's first call.
+#[test]
+fn ends_where_a_line_is_not_written(rt: HostRuntime) -> Result<(), Fail> {
+    let failing = Failing { sink: &[1], ..NONE };
+    for script in [b"SHOW".as_slice(), b"SHOW FILES t;"] {
+        let script = Bytes::from_slice(rt.alloc(), script)?;
+        let (status, written) = ran(rt.alloc(), &[], &failing, &[], script)?;
+        assert!(rt; status == 5);
         assert!(rt; written.is_empty());
     }
+    Ok(())
+}
+
+#[test]
+fn refuses_words(rt: HostRuntime) -> Result<(), Fail> {
     let words = vec![in rt.alloc(); String::from_str(rt.alloc(), "--rot")?]?;
-    let (ended, written) = ran(
+    let (status, written) = ran(
         rt.alloc(),
-        files,
+        &[],
         &NONE,
         words.as_slice(),
         Bytes::new(rt.alloc()),
     )?;
-    assert!(rt; ended == 2);
+    assert!(rt; status == 2);
     assert!(rt; written.as_slice() == "usage: deltamerge [--root DIR] [--workload N]\n".as_bytes());
     Ok(())
 }

@@ -10,10 +10,10 @@ returns-in-Ok-read_commit-clause-commit g c =
 
 pub returns-in-Err-BadAction-clause-commit : goal.returns-in-Err-BadAction-clause-commit
 returns-in-Err-BadAction-clause-commit g c =
-    refuses (g.S.Store.files c.args.store.now) (λ files. commit_at (log_of c.args.table.now files) c.args.version) c.refused.result (refusal.BadAction 0 0) c.refused.ensures
-    (commit_read (g.S.Store.files c.args.store.now) c.args.table.now c.args.version c.as_str.result.now c.as_slice.result.now (Err c.in-Err-BadAction.field-0-0) (search rules) (search rules) (search rules) (search rules))
+    refuses (g.S.Store.files c.args.store.now) (λ files. commit_at (log_of c.args.table.now files) c.args.version) c.refused.result (refusal.BadAction c.args.version c.in-Err-BadAction.line) c.refused.ensures
+    (commit_read (g.S.Store.files c.args.store.now) c.args.table.now c.args.version c.as_str.result.now c.as_slice.result.now (Err c.in-Err-BadAction.line) (search rules) (search rules) (search rules) (search rules))
 
 pub returns-in-Err-Absent-clause-commit : goal.returns-in-Err-Absent-clause-commit
 returns-in-Err-Absent-clause-commit g c =
-    refuses (g.S.Store.files c.args.store.now) (λ files. commit_at (log_of c.args.table.now files) c.args.version) c.refused-in-Err-Absent.result (refusal.LogGap 0) c.refused-in-Err-Absent.ensures
+    refuses (g.S.Store.files c.args.store.now) (λ files. commit_at (log_of c.args.table.now files) c.args.version) c.refused-in-Err-Absent.result (refusal.LogGap c.args.version) c.refused-in-Err-Absent.ensures
     (commit_missed (g.S.Store.files c.args.store.now) c.args.table.now c.args.version c.as_str.result.now (search rules) (search rules) (search rules))
