@@ -12,6 +12,12 @@ Gives known (Ok a) = known ≡ Some a
 Gives known (Err Bad) = known ≡ None
 Gives known (Err Memory) = ⊤
 
+-- the same, of what is seen of a value
+abbrev pub GivesBy : {A B : Type 0} → (B → A) → Option A → Result B Fault → Type 0
+GivesBy see known (Ok b) = known ≡ Some (see b)
+GivesBy see known (Err Bad) = known ≡ None
+GivesBy see known (Err Memory) = ⊤
+
 -- the actions of a commit, or its first bad line
 abbrev pub ReadsCommit : Result (List Action) ℕ → Result (List Action) ActionFault → Type 0
 ReadsCommit known (Ok actions) = known ≡ Ok actions

@@ -30,7 +30,8 @@ fn add_line(
 ///
 /// The lines are parted by line feeds. Lines of spaces, tabs and carriage returns are passed by.
 /// Every other line is a JSON object with one member that isn't null, whose name is the action's
-/// (PROTOCOL.md, "Actions"). Members of an action that aren't named in its type are ignored.
+/// (PROTOCOL.md, "Actions"). Members of an action that aren't named in its type are ignored; of
+/// those that are, each must have its form, also where it may be absent or null.
 pub fn read_commit(alloc: Global, bytes: &[u8]) -> Result<Actions, ActionFault>
     ensures { ReadsCommit (commit_of bytes.now) result }
 {

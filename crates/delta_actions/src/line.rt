@@ -1,51 +1,15 @@
 // One line of a commit.
-ghost use Rattle.std.specs.Prelude.{◌≡◌, option_map, option_and_then};
+ghost use Rattle.std.specs.Prelude.{◌≡◌, option_map};
 ghost use Rattle.std.specs.List.{list_all};
-ghost use Rattle.serde_json.specs.Find.{as_str};
 ghost use Rattle.serde_json.specs.View.{view};
 ghost use Rattle.delta_actions.specs.Answers.{Gives};
-ghost use Rattle.delta_actions.specs.Forms.{present};
-ghost use Rattle.delta_actions.specs.Meaning.{add_of, remove_of, action_of, only_member as only_member_of, object_action as object_action_of, line_of, is_space};
+ghost use Rattle.delta_actions.specs.Meaning.{only_member as only_member_of, object_action as object_action_of, line_of, is_space};
 
-use crate::action::{Action, AddAction, RemoveAction};
+use crate::action::Action;
 use crate::fault::Fault;
-use dm_types::Text;
+use crate::reading::action;
 use serde_json::Value;
 use std::alloc::Global;
-
-/// The text of a member that must be there.
-fn text(alloc: Global, value: &Value, name: &str) -> Result<Text, Fault>
-    ensures { Gives (option_and_then as_str (present name.now (view value.now))) result }
-{
-    match value.get(name).and_then(Value::as_str) {
-        Some(text) => Ok(Text::from_str(alloc, text)?),
-        None => Err(Fault::Bad),
-    }
-}
-
-fn add(alloc: Global, value: &Value) -> Result<AddAction, Fault>
-    ensures { Gives (add_of (view value.now)) result }
-{
-    let path = text(alloc, value, "path")?;
-    Ok(AddAction { path })
-}
-
-fn remove(alloc: Global, value: &Value) -> Result<RemoveAction, Fault>
-    ensures { Gives (remove_of (view value.now)) result }
-{
-    let path = text(alloc, value, "path")?;
-    Ok(RemoveAction { path })
-}
-
-fn action(alloc: Global, name: &str, value: &Value) -> Result<Action, Fault>
-    ensures { Gives (action_of name.now (view value.now)) result }
-{
-    match name {
-        "add" => Ok(Action::Add(add(alloc, value)?)),
-        "remove" => Ok(Action::Remove(remove(alloc, value)?)),
-        _ => Ok(Action::Other),
-    }
-}
 
 /// The one member that isn't null.
 fn only_member(value: &Value) -> Option<(&str, &Value)>

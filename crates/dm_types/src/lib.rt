@@ -24,6 +24,12 @@ pub type TextList = Items<Text>;
 /// Files as pairs of path and bytes, in the order in which they were put.
 pub type PathBytes = Items<(Text, Bytes)>;
 
+/// Texts under names.
+pub type TextPairs = Items<(Text, Text)>;
+
+/// Texts or nulls under names, as the values of partition columns.
+pub type PartitionValues = Items<(Text, Option<Text>)>;
+
 /// Counts, as the numbers of calls.
 pub type CountList = Items<u64>;
 
