@@ -1,0 +1,30 @@
+-- The versions of a log: 0, 1, 2 up to the newest (PROTOCOL.md, "Delta Log Entries").
+use Rattle.std.specs.Prelude.{ℕ, zero, suc, max, List, [], ◌∷◌, Bool, Option, Some, None, Result, Ok, Err, ◌==◌, if◌then◌else◌}
+use Rattle.std.specs.List.{list_any}
+use Rattle.std.specs.Option.{option_or}
+use Rattle.log_replay.specs.declared.numbers.NumberFault.{NumberFault}
+use Rattle.log_replay.specs.declared.numbers.NumberFault.TheVariants as fault
+
+-- the number is in the list
+abbrev pub is_in : ℕ → List ℕ → Bool
+is_in n ns = list_any (λ m. m == n) ns
+
+-- the greatest of the list, or 0 for an empty one
+unfoldable pub greatest : List ℕ → ℕ
+greatest [] = 0
+greatest (n ∷ ns) = max n (greatest ns)
+
+-- the least number below the bound that isn't in the list
+unfoldable pub first_missing : List ℕ → ℕ → Option ℕ
+first_missing ns zero = None
+first_missing ns (suc n) = option_or (first_missing ns n) (if is_in n ns then None else Some n)
+
+-- the newest, unless a version below it is missing: then the fault names the least such version
+abbrev pub unless_gap : Option ℕ → ℕ → Result ℕ NumberFault
+unless_gap None newest = Ok newest
+unless_gap (Some missing) newest = Err (fault.Gap missing)
+
+-- the newest of these versions: there is one, and none below the newest is missing
+unfoldable pub newest_of : List ℕ → Result ℕ NumberFault
+newest_of [] = Err fault.Nothing
+newest_of (n ∷ ns) = let newest = greatest (n ∷ ns) in unless_gap (first_missing (n ∷ ns) newest) newest

@@ -1,0 +1,49 @@
+// The versions of a log.
+ghost use Rattle.std.specs.Prelude.{◌≡◌, ℕ, IfOk, IsTrue};
+ghost use Rattle.std.specs.List.Sorted.{IsStrictlySortedBy};
+ghost use Rattle.std.specs.Ordering.{nat_cmp};
+ghost use Rattle.log_replay.specs.Numbers.{is_in, newest_of};
+
+use thiserror::Error;
+
+/// Why versions are no log.
+#[derive(Clone, Copy, Debug, PartialEq, Eq, Error)]
+pub enum NumberFault {
+    /// There is none.
+    #[error("there is no version")]
+    Nothing,
+    /// One below the newest is missing.
+    #[error("version {version} is missing")]
+    Gap {
+        /// The least version that is missing.
+        version: u64,
+    },
+}
+
+/// The newest of some versions, which ascend, each once: they must be 0, 1, 2 and so on
+/// (PROTOCOL.md, "Delta Log Entries").
+pub fn check_numbers(sorted: &[u64]) -> Result<u64, NumberFault>
+    requires { IsStrictlySortedBy nat_cmp sorted.now }
+    ensures newest { result ≡ newest_of sorted.now }
+    ensures member { IfOk result (λ newest. IsTrue (is_in newest sorted.now)) }
+{
+    let mut next = 0;
+    let mut rest = sorted;
+    while let Some((number, more)) = rest.split_first() {
+        if *number != next {
+            return Err(NumberFault::Gap { version: next });
+        }
+        next += 1;
+        rest = more;
+    }
+    match next {
+        0 => Err(NumberFault::Nothing),
+        _ => Ok(next - 1),
+    }
+}
+
+/// A law: the newest version, or the fault, is told by the members of a list alone, whatever their
+/// order and how often they stand there.
+pub fn members_decide(first: &[u64], second: &[u64])
+    ensures { ((n : ℕ) → is_in n first.now ≡ is_in n second.now) → newest_of first.now ≡ newest_of second.now }
+{}
