@@ -1,7 +1,7 @@
 -- What is due, and how its line ends the run.
-use Rattle.std.proofs.Common.{◌≡◌, ◌≢◌, ℕ, ◌+◌, ◌<◌, ◌≤◌, List, [], ◌∷◌, length, take, ◌==◌, Bool, true, false, nat_lt, Option, Some, None, Result, Ok, Err, inl, inr, refl, sym, ap, ◌∙◌, subst, arith}
+use Rattle.std.proofs.Common.{◌≡◌, ℕ, ◌+◌, ◌<◌, ◌≤◌, List, [], ◌∷◌, length, take, ◌==◌, Bool, true, false, nat_lt, Option, Some, None, Ok, Err, refl, sym, ap, ◌∙◌, arith}
 use Rattle.std.specs.Prelude.{IfSome, replicate}
-use Rattle.std.specs.Io.KnownBytes.{Appends, Keeps, IsAtEnd}
+use Rattle.std.specs.Io.KnownBytes.{Appends}
 use Rattle.std.proofs.lemmas.Bool.Decides.{nat_tests}
 use Rattle.std.proofs.lemmas.List.{length-replicate}
 use Rattle.dm_store.specs.Files.{Files}
@@ -18,7 +18,7 @@ use Rattle.script_run.specs.declared.status.Status.TheVariants as status
 use Rattle.script_run.specs.Outcome.{ending, usage_line, refused_line, max_script, due_of, due_of_script}
 use Rattle.script_run.specs.Script.{statements_of}
 use Rattle.script_run.specs.declared.statement.Statement.{Statement}
-use Rattle.script_run.specs.Ran.{IsOfScript, Ran, Does, ended, ran, unread, line_cut, no_memory}
+use Rattle.script_run.specs.Ran.{IsOfScript, Ran, ended, ran, unread, line_cut, no_memory}
 use Rattle.script_run.specs.Reaching.{Reaches, EndsRun, RunsAll, status_of_fault}
 use Rattle.script_run.proofs.Turns.{appends_none, appends_same}
 

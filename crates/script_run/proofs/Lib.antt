@@ -1,4 +1,3 @@
-mod Deciding
 mod Digits
 mod Ending
 mod Found
@@ -8,7 +7,6 @@ mod Naming
 mod Numbers
 mod Reader
 mod Reading
-mod Replaying
 mod Showing
 mod Spelled
 mod Spelling

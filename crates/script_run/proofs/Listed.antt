@@ -11,7 +11,8 @@ use Rattle.std.proofs.lemmas.List.Folds.{list_any-append}
 use Rattle.std.proofs.lemmas.List.Sorted.{list_any-IsPermutation}
 use Rattle.std.proofs.lemmas.Slice.Eq.{bytes_eq-Decides}
 use Rattle.dm_store.specs.Files.{Files, WhereTold, lookup, name_below, names_below}
-use Rattle.script_run.specs.Log.{Log, log_folder, commit_path, version_of, commit_file, log_of, is_in}
+use Rattle.log_replay.specs.Numbers.{is_in}
+use Rattle.script_run.specs.Log.{Log, log_folder, commit_path, version_of, commit_file, log_of}
 use Rattle.dm_types.specs.Then.{◌>>=◌}
 use Rattle.script_run.proofs.Spelling.{version_at, version_at-path, path-from_version}
 

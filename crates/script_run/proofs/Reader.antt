@@ -1,10 +1,10 @@
 -- Reading statement after statement.
-use Rattle.std.proofs.Common.{ℕ, zero, suc, ◌+◌, ◌-◌, ◌≡◌, ◌≢◌, ◌≤◌, ◌<◌, List, [], ◌∷◌, ◌++◌, length, drop, length-drop, append-nil, append_assoc, Bool, true, false, ◌==◌, Option, Some, None, option_map, refl, sym, ap, ◌∙◌, subst, arith}
+use Rattle.std.proofs.Common.{ℕ, zero, suc, ◌+◌, ◌≡◌, ◌≢◌, ◌≤◌, ◌<◌, List, [], ◌∷◌, ◌++◌, length, drop, length-drop, append-nil, append_assoc, Bool, true, false, ◌==◌, Option, Some, None, option_map, refl, sym, ap, ◌∙◌, subst, arith}
 use Rattle.std.specs.Prelude.{codes}
 use Rattle.std.specs.List.{take_while}
 use Rattle.std.specs.Str.{is_utf8, str_eq_ignore_ascii_case}
 use Rattle.std.proofs.lemmas.Bool.{cond_both}
-use Rattle.std.proofs.lemmas.Option.{cond_some, none-some, option_and_then_some, some_pair_parts}
+use Rattle.std.proofs.lemmas.Option.{cond_some, none-some, option_and_then_some}
 use Rattle.script_run.specs.declared.statement.Statement.{Statement}
 use Rattle.script_run.specs.declared.statement.Statement.TheVariants as statement
 use Rattle.script_run.specs.Script.{is_white, is_no_feed, begins_comment, past_gap_from, past_gap, is_word_byte, past_word, table_token, is_table_name, past_semicolon, table_and_rest, shown_table, statement_of, with_statement, statements_in, statements_of}

@@ -9,11 +9,13 @@ use Rattle.dm_types.specs.declared.refusal.Stop.{Stop}
 use Rattle.dm_types.specs.declared.refusal.Stop.TheVariants as stop
 use Rattle.delta_actions.specs.declared.action.Action.{Action}
 use Rattle.delta_actions.specs.Meaning.{commit_of}
-use Rattle.script_run.specs.Log.{Log, log_of, commit_path, good_lines, commit_at, commits_below, commits_of, newest_of, is_in}
+use Rattle.log_replay.specs.declared.commits.Commit.{Commit}
+use Rattle.log_replay.specs.Numbers.{is_in, newest_of}
+use Rattle.log_replay.proofs.Counting.{newest-same}
+use Rattle.script_run.specs.Log.{Log, log_of, commit_path, good_lines, commit_at, commits_below, commits_of, of_numbers, numbered}
 use Rattle.script_run.specs.Listed.{FindsNewest}
 use Rattle.script_run.specs.Tells.{Tells}
 use Rattle.script_run.proofs.Listed.{log-lookup, AreVersions}
-use Rattle.script_run.proofs.Numbers.{newest-same}
 
 -- an answer that refuses
 
@@ -36,7 +38,7 @@ commit_missed (Some files) table n path small is absent = rw (log-lookup table n
 -- the log, commit by commit
 
 -- the commits below this version are read
-abbrev pub AreRead : List ℕ → ℕ → List (List Action) → Option Files → Type 0
+abbrev pub AreRead : List ℕ → ℕ → List Commit → Option Files → Type 0
 AreRead table n commits told = WhereTold told (λ files. commits_below (log_of table files) n ≡ Ok commits)
 
 pub reading_begins : (told : Option Files) (table : List ℕ) → AreRead table 0 [] told
@@ -44,16 +46,16 @@ unfolding commits_below
 reading_begins None table = tt
 reading_begins (Some files) table = refl
 
-next : (log : Log) (n : ℕ) (commits : List (List Action)) (commit : List Action) → commits_below log n ≡ Ok commits → commit_at log n ≡ Ok commit → commits_below log (n + 1) ≡ Ok (commits ++ commit ∷ [])
+next : (log : Log) (n : ℕ) (commits : List Commit) (actions : List Action) → commits_below log n ≡ Ok commits → commit_at log n ≡ Ok actions → commits_below log (n + 1) ≡ Ok (commits ++ numbered n actions ∷ [])
 unfolding commits_below
-next log n commits commit below here = rw (add-one n, below, here) refl
+next log n commits actions below here = rw (add-one n, below, here) refl
 
-pub reading_goes_on : (told before : Option Files) (table : List ℕ) (n : ℕ) (commits more : List (List Action)) (commit : List Action) → before ≡ told → AreRead table n commits told
-    → WhereTold before (λ files. commit_at (log_of table files) n ≡ Ok commit) → more ≡ commits ++ commit ∷ [] → AreRead table (n + 1) more told
-reading_goes_on None before table n commits more commit kept so_far here is = tt
-reading_goes_on (Some files) before table n commits more commit kept so_far here is =
-    let found : commit_at (log_of table files) n ≡ Ok commit = subst (λ (o : Option Files). WhereTold o (λ files. commit_at (log_of table files) n ≡ Ok commit)) kept here in
-    rw is (next (log_of table files) n commits commit so_far found)
+pub reading_goes_on : (told before : Option Files) (table : List ℕ) (n : ℕ) (commits more : List Commit) (actions : List Action) → before ≡ told → AreRead table n commits told
+    → WhereTold before (λ files. commit_at (log_of table files) n ≡ Ok actions) → more ≡ commits ++ numbered n actions ∷ [] → AreRead table (n + 1) more told
+reading_goes_on None before table n commits more actions kept so_far here is = tt
+reading_goes_on (Some files) before table n commits more actions kept so_far here is =
+    let found : commit_at (log_of table files) n ≡ Ok actions = subst (λ (o : Option Files). WhereTold o (λ files. commit_at (log_of table files) n ≡ Ok actions)) kept here in
+    rw is (next (log_of table files) n commits actions so_far found)
 
 -- a refusal is that of the whole log
 
@@ -62,42 +64,42 @@ unfolding commits_below
 stays log n zero r e = let same : n + 0 ≡ n = omega arith in rw same e
 stays log n (suc k) r e = let same : n + suc k ≡ suc (n + k) = omega arith in rw (same, stays log n k r e) refl
 
-stops : (log : Log) (n : ℕ) (commits : List (List Action)) (r : TableRefusal) → commits_below log n ≡ Ok commits → commit_at log n ≡ Err r → commits_below log (n + 1) ≡ Err r
+stops : (log : Log) (n : ℕ) (commits : List Commit) (r : TableRefusal) → commits_below log n ≡ Ok commits → commit_at log n ≡ Err r → commits_below log (n + 1) ≡ Err r
 unfolding commits_below
 stops log n commits r below here = rw (add-one n, below, here) refl
 
-stops_whole : (log : Log) (n newest : ℕ) (commits : List (List Action)) (r : TableRefusal) → n < newest + 1 → commits_below log n ≡ Ok commits → commit_at log n ≡ Err r → commits_below log (newest + 1) ≡ Err r
+stops_whole : (log : Log) (n newest : ℕ) (commits : List Commit) (r : TableRefusal) → n < newest + 1 → commits_below log n ≡ Ok commits → commit_at log n ≡ Err r → commits_below log (newest + 1) ≡ Err r
 stops_whole log n newest commits r within below here =
     let e : n + 1 + (newest - n) ≡ newest + 1 = omega arith in
     subst (λ (k : ℕ). commits_below log k ≡ Err r) e (stays log (n + 1) (newest - n) r (stops log n commits r below here))
 
-stops_told : (told : Option Files) (table : List ℕ) (n newest : ℕ) (commits : List (List Action)) (e : Stop) → n < newest + 1 → AreRead table n commits told
-    → Tells told (λ files. commit_at (log_of table files) n) (Err e) → Tells {A = List (List Action)} told (λ files. commits_below (log_of table files) (newest + 1)) (Err e)
+stops_told : (told : Option Files) (table : List ℕ) (n newest : ℕ) (commits : List Commit) (e : Stop) → n < newest + 1 → AreRead table n commits told
+    → Tells told (λ files. commit_at (log_of table files) n) (Err e) → Tells {A = List Commit} told (λ files. commits_below (log_of table files) (newest + 1)) (Err e)
 stops_told told table n newest commits stop.Store within so_far here = tt
 stops_told told table n newest commits stop.Memory within so_far here = tt
 stops_told None table n newest commits (stop.Refused (refused.Table r)) within so_far here = tt
 stops_told (Some files) table n newest commits (stop.Refused (refused.Table r)) within so_far here = stops_whole (log_of table files) n newest commits r within so_far here
 
-pub reading_stops : (told before : Option Files) (table : List ℕ) (n newest : ℕ) (commits : List (List Action)) (e : Stop) (answer : Result (List (List Action)) Stop) → answer ≡ Err e → before ≡ told → n < newest + 1 → AreRead table n commits told
+pub reading_stops : (told before : Option Files) (table : List ℕ) (n newest : ℕ) (commits : List Commit) (e : Stop) (answer : Result (List Commit) Stop) → answer ≡ Err e → before ≡ told → n < newest + 1 → AreRead table n commits told
     → Tells before (λ files. commit_at (log_of table files) n) (Err e) → Tells told (λ files. commits_below (log_of table files) (newest + 1)) answer
 reading_stops told before table n newest commits e answer is kept within so_far here =
     let there : Tells told (λ files. commit_at (log_of table files) n) (Err e) = subst (λ (o : Option Files). Tells o (λ files. commit_at (log_of table files) n) (Err e)) kept here in
-    subst (λ (x : Result (List (List Action)) Stop). Tells told (λ files. commits_below (log_of table files) (newest + 1)) x) (sym is) (stops_told told table n newest commits e within so_far there)
+    subst (λ (x : Result (List Commit) Stop). Tells told (λ files. commits_below (log_of table files) (newest + 1)) x) (sym is) (stops_told told table n newest commits e within so_far there)
 
 -- the whole log
 
-refused_told : (told : Option Files) (table ns : List ℕ) (e : Stop) → AreVersions table told ns → FindsNewest ns (Err e) → Tells {A = List (List Action)} told (λ files. commits_of (log_of table files)) (Err e)
+refused_told : (told : Option Files) (table ns : List ℕ) (e : Stop) → AreVersions table told ns → FindsNewest ns (Err e) → Tells {A = List Commit} told (λ files. commits_of (log_of table files)) (Err e)
 unfolding commits_of
 refused_told told table ns stop.Store listed newest = tt
 refused_told told table ns stop.Memory listed newest = tt
 refused_told None table ns (stop.Refused (refused.Table r)) listed newest = tt
 refused_told (Some files) table ns (stop.Refused (refused.Table r)) listed newest = rw (← newest-same ns (entries.keys_of (log_of table files)) listed, newest) refl
 
-pub log_refused : (told : Option Files) (table ns : List ℕ) (e : Stop) (answer : Result (List (List Action)) Stop) → answer ≡ Err e → AreVersions table told ns → FindsNewest ns (Err e)
+pub log_refused : (told : Option Files) (table ns : List ℕ) (e : Stop) (answer : Result (List Commit) Stop) → answer ≡ Err e → AreVersions table told ns → FindsNewest ns (Err e)
     → Tells told (λ files. commits_of (log_of table files)) answer
-log_refused told table ns e answer is listed newest = subst (λ (x : Result (List (List Action)) Stop). Tells told (λ files. commits_of (log_of table files)) x) (sym is) (refused_told told table ns e listed newest)
+log_refused told table ns e answer is listed newest = subst (λ (x : Result (List Commit) Stop). Tells told (λ files. commits_of (log_of table files)) x) (sym is) (refused_told told table ns e listed newest)
 
-whole : (log : Log) (ns : List ℕ) (newest : ℕ) → ((n : ℕ) → is_in n ns ≡ is_in n (entries.keys_of log)) → newest_of ns ≡ Ok newest → commits_of log ≡ commits_below log (newest + 1)
+whole : (log : Log) (ns : List ℕ) (newest : ℕ) → ((n : ℕ) → is_in n ns ≡ is_in n (entries.keys_of log)) → of_numbers (newest_of ns) ≡ Ok newest → commits_of log ≡ commits_below log (newest + 1)
 unfolding commits_of
 whole log ns newest same found = rw (← newest-same ns (entries.keys_of log) same, found) refl
 
@@ -112,12 +114,12 @@ told_alike (Some files) first second (Err (stop.Refused (refused.Table r))) same
 told_alike (Some files) first second (Err stop.Store) same here = tt
 told_alike (Some files) first second (Err stop.Memory) same here = tt
 
-whole_told : (told : Option Files) (table ns : List ℕ) (newest : ℕ) → AreVersions table told ns → newest_of ns ≡ Ok newest
+whole_told : (told : Option Files) (table ns : List ℕ) (newest : ℕ) → AreVersions table told ns → of_numbers (newest_of ns) ≡ Ok newest
     → WhereTold told (λ files. commits_of (log_of table files) ≡ commits_below (log_of table files) (newest + 1))
 whole_told None table ns newest listed found = tt
 whole_told (Some files) table ns newest listed found = whole (log_of table files) ns newest listed found
 
-pub log_read : (told before : Option Files) (table ns : List ℕ) (newest : ℕ) (answer : Result (List (List Action)) Stop) → before ≡ told → AreVersions table told ns → newest_of ns ≡ Ok newest
+pub log_read : (told before : Option Files) (table ns : List ℕ) (newest : ℕ) (answer : Result (List Commit) Stop) → before ≡ told → AreVersions table told ns → of_numbers (newest_of ns) ≡ Ok newest
     → Tells before (λ files. commits_below (log_of table files) (newest + 1)) answer → Tells told (λ files. commits_of (log_of table files)) answer
 log_read told before table ns newest answer kept listed found read =
     told_alike told (λ files. commits_below (log_of table files) (newest + 1)) (λ files. commits_of (log_of table files)) answer (whole_told told table ns newest listed found)

@@ -5,14 +5,14 @@ use Rattle.dm_types.specs.Order.{in_byte_order}
 use Rattle.dm_types.specs.declared.refusal.Refused.TheVariants as refused
 use Rattle.dm_types.specs.declared.refusal.Stop.{Stop}
 use Rattle.dm_types.specs.declared.refusal.Stop.TheVariants as stop
-use Rattle.delta_actions.specs.declared.action.Action.{Action}
+use Rattle.log_replay.specs.declared.commits.Commit.{Commit}
 use Rattle.script_run.specs.Log.{log_of, commits_of}
-use Rattle.script_run.specs.Live.{live_paths}
+use Rattle.log_replay.specs.Live.{live_adds, paths_of}
 use Rattle.script_run.specs.Shown.{path_lines, show_files}
 use Rattle.script_run.specs.Tells.{Tells}
 
-pub shown : (told : Option Files) (table : List ℕ) (commits : List (List Action)) (paths sorted : List (List ℕ)) (text : List ℕ) → WhereTold told (λ files. commits_of (log_of table files) ≡ Ok commits)
-    → paths ≡ live_paths commits → sorted ≡ in_byte_order paths → text ≡ path_lines sorted → WhereTold told (λ files. show_files table files ≡ Ok text)
+pub shown : (told : Option Files) (table : List ℕ) (commits : List Commit) (paths sorted : List (List ℕ)) (text : List ℕ) → WhereTold told (λ files. commits_of (log_of table files) ≡ Ok commits)
+    → paths ≡ paths_of (live_adds commits) → sorted ≡ in_byte_order paths → text ≡ path_lines sorted → WhereTold told (λ files. show_files table files ≡ Ok text)
 unfolding show_files
 shown None table commits paths sorted text loaded live order lines = tt
 shown (Some files) table commits paths sorted text loaded live order lines = rw (loaded, lines, order, live) refl

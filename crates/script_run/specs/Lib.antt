@@ -2,8 +2,6 @@ pub mod Script
 pub mod Spelling
 pub mod Log
 pub mod Listed
-pub mod Live
-pub mod Replay
 pub mod Tells
 pub mod Shown
 pub mod Outcome

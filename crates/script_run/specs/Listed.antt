@@ -6,7 +6,8 @@ use Rattle.dm_store.specs.Files.{Files, WhereTold}
 use Rattle.dm_types.specs.declared.refusal.Refused.TheVariants as refused
 use Rattle.dm_types.specs.declared.refusal.Stop.{Stop}
 use Rattle.dm_types.specs.declared.refusal.Stop.TheVariants as stop
-use Rattle.script_run.specs.Log.{is_in, log_of, newest_of}
+use Rattle.log_replay.specs.Numbers.{is_in, newest_of}
+use Rattle.script_run.specs.Log.{log_of, of_numbers}
 
 -- a version fits an `i64`
 abbrev pub IsVersion : ℕ → Type 0
@@ -21,7 +22,7 @@ ListsVersions table told (Err stop.Memory) = ⊤
 
 -- the newest of the versions, or the refusal
 abbrev pub FindsNewest : List ℕ → Result ℕ Stop → Type 0
-FindsNewest versions (Ok newest) = newest_of versions ≡ Ok newest
-FindsNewest versions (Err (stop.Refused (refused.Table refusal))) = newest_of versions ≡ Err refusal
+FindsNewest versions (Ok newest) = of_numbers (newest_of versions) ≡ Ok newest
+FindsNewest versions (Err (stop.Refused (refused.Table refusal))) = of_numbers (newest_of versions) ≡ Err refusal
 FindsNewest versions (Err stop.Store) = ⊥
-FindsNewest versions (Err stop.Memory) = ⊥
+FindsNewest versions (Err stop.Memory) = ⊤

@@ -1,8 +1,7 @@
 -- The log of a table: the commit files of its folder (PROTOCOL.md, "Delta Log Entries").
-use Rattle.std.specs.Prelude.{ℕ, zero, suc, ◌+◌, ◌/◌, ◌%◌, ◌^◌, max, List, [], ◌∷◌, ◌++◌, Bool, Option, Some, None, Result, Ok, Err, take, drop, codes, nat_lt, ◌==◌, ◌&&◌, if◌then◌else◌}
-use Rattle.std.specs.List.{filter_map, list_any}
+use Rattle.std.specs.Prelude.{ℕ, zero, suc, ◌+◌, ◌/◌, ◌%◌, ◌^◌, List, [], ◌∷◌, ◌++◌, Option, Some, None, Result, Ok, Err, take, drop, codes, nat_lt, ◌==◌, ◌&&◌, if◌then◌else◌}
+use Rattle.std.specs.List.{filter_map}
 use Rattle.std.specs.Map as entries
-use Rattle.std.specs.Option.{option_or}
 use Rattle.std.specs.Str.{bytes_eq, all_ascii_digits}
 use Rattle.std.specs.Str.Parse.{digits_value}
 use Rattle.dm_store.specs.Files.{Files, name_below}
@@ -10,6 +9,10 @@ use Rattle.dm_types.specs.declared.refusal.TableRefusal.{TableRefusal}
 use Rattle.dm_types.specs.declared.refusal.TableRefusal.TheVariants as refusal
 use Rattle.delta_actions.specs.declared.action.Action.{Action}
 use Rattle.delta_actions.specs.Meaning.{commit_of}
+use Rattle.log_replay.specs.Numbers.{newest_of}
+use Rattle.log_replay.specs.declared.commits.Commit.{Commit}
+use Rattle.log_replay.specs.declared.numbers.NumberFault.{NumberFault}
+use Rattle.log_replay.specs.declared.numbers.NumberFault.TheVariants as fault
 use Rattle.dm_types.specs.Then.{go, ◌>>=◌}
 
 -- the folder of the commit files
@@ -51,33 +54,15 @@ commit_file table file = do
 unfoldable pub log_of : List ℕ → Files → Log
 log_of table files = filter_map (commit_file table) files
 
--- the number is in the list
-abbrev pub is_in : ℕ → List ℕ → Bool
-is_in n ns = list_any (λ m. m == n) ns
-
--- the greatest of the list, or 0 for an empty one
-unfoldable pub greatest : List ℕ → ℕ
-greatest [] = 0
-greatest (n ∷ ns) = max n (greatest ns)
-
--- the least number below the bound that isn't in the list
-unfoldable pub first_missing : List ℕ → ℕ → Option ℕ
-first_missing ns zero = None
-first_missing ns (suc n) = option_or (first_missing ns n) (if is_in n ns then None else Some n)
-
--- the newest, unless a version below it is missing: then the refusal names the least such version
-abbrev pub unless_gap : Option ℕ → ℕ → Result ℕ TableRefusal
-unless_gap None newest = Ok newest
-unless_gap (Some missing) newest = Err (refusal.LogGap missing)
-
--- the newest of these versions: there is one, and none below the newest is missing
-unfoldable pub newest_of : List ℕ → Result ℕ TableRefusal
-newest_of [] = Err refusal.NoTable
-newest_of (n ∷ ns) = let newest = greatest (n ∷ ns) in unless_gap (first_missing (n ∷ ns) newest) newest
+-- why versions are no log, as the refusal of the table
+abbrev pub of_numbers : Result ℕ NumberFault → Result ℕ TableRefusal
+of_numbers (Ok newest) = Ok newest
+of_numbers (Err fault.Nothing) = Err refusal.NoTable
+of_numbers (Err (fault.Gap version)) = Err (refusal.LogGap version)
 
 -- the newest version of a log
 abbrev pub newest_version : Log → Result ℕ TableRefusal
-newest_version log = newest_of (entries.keys_of log)
+newest_version log = of_numbers (newest_of (entries.keys_of log))
 
 -- the actions of a version, unless a line is none
 abbrev pub good_lines : ℕ → Result (List Action) ℕ → Result (List Action) TableRefusal
@@ -93,11 +78,14 @@ actions_in version (Some bytes) = good_lines version (commit_of bytes)
 abbrev pub commit_at : Log → ℕ → Result (List Action) TableRefusal
 commit_at log version = actions_in version (entries.lookup (λ n. n == version) log)
 
--- the actions of each version below the bound
-unfoldable pub commits_below : Log → ℕ → Result (List (List Action)) TableRefusal
+abbrev pub numbered : ℕ → List Action → Commit
+numbered version actions = record { version = version; actions = actions }
+
+-- the commit of each version below the bound
+unfoldable pub commits_below : Log → ℕ → Result (List Commit) TableRefusal
 commits_below log zero = Ok []
-commits_below log (suc n) = go (commits_below log n) (λ commits. go (commit_at log n) (λ commit. Ok (commits ++ commit ∷ [])))
+commits_below log (suc n) = go (commits_below log n) (λ commits. go (commit_at log n) (λ actions. Ok (commits ++ numbered n actions ∷ [])))
 
 -- the commits up to the newest version, or the first refusal
-unfoldable pub commits_of : Log → Result (List (List Action)) TableRefusal
+unfoldable pub commits_of : Log → Result (List Commit) TableRefusal
 commits_of log = go (newest_version log) (λ newest. commits_below log (newest + 1))

@@ -6,7 +6,7 @@ use Rattle.dm_types.specs.Order.{in_byte_order}
 use Rattle.dm_types.specs.declared.refusal.TableRefusal.{TableRefusal}
 use Rattle.dm_types.specs.Then.{go}
 use Rattle.script_run.specs.Log.{log_of, commits_of}
-use Rattle.script_run.specs.Live.{live_paths}
+use Rattle.log_replay.specs.Live.{live_adds, paths_of}
 
 -- a backslash, tab, line feed and carriage return are written `\\`, `\t`, `\n`, `\r`
 abbrev pub escaped : ℕ → List ℕ
@@ -27,4 +27,4 @@ path_lines paths = flat_map (λ path. field path ++ 10 ∷ []) paths
 
 -- the paths as logged, in byte order
 unfoldable pub show_files : List ℕ → Files → Result (List ℕ) TableRefusal
-show_files table files = go (commits_of (log_of table files)) (λ commits. Ok (path_lines (in_byte_order (live_paths commits))))
+show_files table files = go (commits_of (log_of table files)) (λ commits. Ok (path_lines (in_byte_order (paths_of (live_adds commits)))))

@@ -3,7 +3,6 @@
 
 mod halt;
 mod laws;
-mod live;
 mod log;
 mod outcome;
 mod runs;

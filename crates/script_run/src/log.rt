@@ -6,14 +6,17 @@ ghost use Rattle.dm_store.specs.Causes.{Counts, StopCause};
 ghost use Rattle.dm_types.specs.declared.refusal.Refused.TheVariants as refused;
 ghost use Rattle.dm_types.specs.declared.refusal.Stop.TheVariants as stop;
 ghost use Rattle.script_run.specs.Log as spec;
-ghost use Rattle.script_run.specs.Log.{is_in};
+ghost use Rattle.std.specs.List.Sorted.{IsStrictlySortedBy};
+ghost use Rattle.std.specs.Ordering.{nat_cmp};
+ghost use Rattle.log_replay.specs.Live.{AreNumbered};
+ghost use Rattle.log_replay.specs.Numbers.{is_in};
 ghost use Rattle.script_run.specs.Listed.{IsVersion, ListsVersions, FindsNewest};
 ghost use Rattle.script_run.specs.Tells.{Tells};
 
-use crate::live::Commits;
 use delta_actions::{ActionFault, Actions, read_commit};
 use dm_store::{ReadFault, Store};
-use dm_types::{Refused, Stop, TableRefusal, Text};
+use dm_types::{CountList, Refused, Stop, TableRefusal, Text};
+use log_replay::{Commit, Commits, NumberFault, check_numbers};
 use std::alloc::{AllocError, Global};
 use std::collections::BTreeSet;
 
@@ -24,12 +27,13 @@ pub(crate) fn load_commits<S: Store>(
     table: &Text,
 ) -> Result<Commits, Stop>
     ensures commits { Tells (S.files store.old) (λ files. spec.commits_of (spec.log_of table.now files)) result }
+    ensures numbered { IfOk result (AreNumbered 0) }
     ensures kept { S.files store.new ≡ S.files store.old }
     ensures cause { Counts StopCause (S.faults store.old) (S.faults store.new) result }
     ensures taken { S.taken store.new ≡ S.taken store.old }
 {
     let versions = list_versions(alloc, store, table)?;
-    let newest = newest_version(&versions)?;
+    let newest = newest_version(alloc, &versions)?;
     read_commits(alloc, store, table, newest)
 }
 
@@ -66,20 +70,25 @@ fn add_version(versions: &mut BTreeSet<u64>, name: &str) -> Result<(), AllocErro
 }
 
 // The newest version, if no older one is missing.
-fn newest_version(versions: &BTreeSet<u64>) -> Result<u64, Stop>
+fn newest_version(alloc: Global, versions: &BTreeSet<u64>) -> Result<u64, Stop>
     requires { All IsVersion versions.now.keys }
     ensures newest { FindsNewest versions.now.keys result }
     ensures small { IfOk result IsVersion }
 {
-    let Some(newest) = versions.last() else {
-        return Err(refused(TableRefusal::NoTable));
-    };
-    for version in 0..*newest {
-        if !versions.contains(&version) {
-            return Err(refused(TableRefusal::LogGap { version }));
-        }
+    let sorted = ascending(alloc, versions)?;
+    match check_numbers(sorted.as_slice()) {
+        Ok(newest) => Ok(newest),
+        Err(NumberFault::Nothing) => Err(refused(TableRefusal::NoTable)),
+        Err(NumberFault::Gap { version }) => Err(refused(TableRefusal::LogGap { version })),
     }
-    Ok(*newest)
+}
+
+fn ascending(alloc: Global, versions: &BTreeSet<u64>) -> Result<CountList, AllocError>
+    ensures same { IfOk result (λ sorted. sorted ≡ versions.now.keys) }
+    ensures ascending { IfOk result (λ sorted. IsStrictlySortedBy nat_cmp sorted) }
+{
+    let sorted = versions.iter().copied().collect(alloc)?;
+    Ok(CountList::from_vec(sorted))
 }
 
 // The commits from version 0 to the newest.
@@ -91,14 +100,15 @@ fn read_commits<S: Store>(
 ) -> Result<Commits, Stop>
     requires { IsVersion newest }
     ensures commits { Tells (S.files store.old) (λ files. spec.commits_below (spec.log_of table.now files) (newest + 1)) result }
+    ensures numbered { IfOk result (AreNumbered 0) }
     ensures kept { S.files store.new ≡ S.files store.old }
     ensures cause { Counts StopCause (S.faults store.old) (S.faults store.new) result }
     ensures taken { S.taken store.new ≡ S.taken store.old }
 {
     let mut commits = Commits::new(alloc);
     for version in 0..newest + 1 {
-        let commit = read_commit_file(alloc, store, table, version)?;
-        commits.push(commit)?;
+        let actions = read_commit_file(alloc, store, table, version)?;
+        commits.push(Commit { version, actions })?;
     }
     Ok(commits)
 }

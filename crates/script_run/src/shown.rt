@@ -4,10 +4,10 @@ ghost use Rattle.dm_store.specs.Causes.{Counts, StopCause};
 ghost use Rattle.script_run.specs.Shown as spec;
 ghost use Rattle.script_run.specs.Tells.{Tells};
 
-use crate::live::live_paths;
 use crate::log::load_commits;
 use dm_store::Store;
 use dm_types::{Bytes, Stop, Text, TextList, sort_texts};
+use log_replay::live_paths;
 use std::alloc::{AllocError, Global};
 
 /// The text of SHOW FILES: a line for each live file of the newest version, its path as logged, in

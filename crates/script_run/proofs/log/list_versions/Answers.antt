@@ -1,7 +1,8 @@
 use Rattle.std.proofs.Common.{rules, arith, take, List, ℕ, ◌≡◌, ap, ◌∙◌}
 use Rattle.std.specs.List.{filter_map}
 use Rattle.std.proofs.lemmas.Grind.{common_steps}
-use Rattle.script_run.specs.Log.{is_in, version_of}
+use Rattle.log_replay.specs.Numbers.{is_in}
+use Rattle.script_run.specs.Log.{version_of}
 use Rattle.script_run.proofs.Listed.{versions_listed, versions_more}
 use Rattle.script_run.proofs.log.list_versions.Goals as goal
 

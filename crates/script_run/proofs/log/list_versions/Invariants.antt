@@ -1,6 +1,7 @@
 use Rattle.std.proofs.Common.{◌≡◌, ℕ, take}
 use Rattle.std.specs.List.{All, filter_map}
-use Rattle.script_run.specs.Log.{is_in, version_of}
+use Rattle.log_replay.specs.Numbers.{is_in}
+use Rattle.script_run.specs.Log.{version_of}
 use Rattle.script_run.specs.Listed.{IsVersion}
 use Rattle.script_run.proofs.log.list_versions.Given as goal
 

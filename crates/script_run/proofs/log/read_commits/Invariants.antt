@@ -1,4 +1,5 @@
 use Rattle.std.proofs.Common.{◌≡◌}
+use Rattle.log_replay.proofs.Numbered.{AreCounted}
 use Rattle.script_run.proofs.Reading.{AreRead}
 use Rattle.script_run.proofs.log.read_commits.Given as goal
 
@@ -7,5 +8,6 @@ invariant-loop-version g l = record {
   files : g.S.Store.files l.store ≡ g.S.Store.files l.fn.store;
   faults : g.S.Store.faults l.store ≡ g.S.Store.faults l.fn.store;
   taken : g.S.Store.taken l.store ≡ g.S.Store.taken l.fn.store;
+  counted : AreCounted l.commits l.version;
   read : AreRead l.table l.version l.commits (g.S.Store.files l.fn.store);
 }

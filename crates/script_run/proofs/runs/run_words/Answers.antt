@@ -1,4 +1,3 @@
-use Rattle.std.proofs.Common.{rules}
 use Rattle.script_run.proofs.Ending.{statements_ran, source_failed, memory_failed}
 use Rattle.script_run.proofs.Turns.{due_read_on, statements_read}
 use Rattle.script_run.proofs.runs.run_words.Goals as goal

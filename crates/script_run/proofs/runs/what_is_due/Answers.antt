@@ -1,4 +1,3 @@
-use Rattle.std.proofs.Common.{rules}
 use Rattle.script_run.proofs.Ending.{words_none, due_usage, due_too_long}
 use Rattle.script_run.proofs.runs.what_is_due.Goals as goal
 

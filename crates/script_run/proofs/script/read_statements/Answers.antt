@@ -1,5 +1,5 @@
-use Rattle.std.proofs.Common.{rules, ◌∙◌, sym, ap, arith}
-use Rattle.script_run.proofs.Reader.{joined_begins, joined_goes_on, joined_fails, joined_ends, left_shorter}
+use Rattle.std.proofs.Common.{rules}
+use Rattle.script_run.proofs.Reader.{joined_begins, joined_goes_on, left_shorter}
 use Rattle.script_run.proofs.script.read_statements.Goals as goal
 
 pub loop-rest-init : goal.loop-rest-init

@@ -1,4 +1,4 @@
-use Rattle.std.proofs.Common.{rules, refl, ◌∙◌, sym, Ok, Err}
+use Rattle.std.proofs.Common.{rules, Ok, Err}
 use Rattle.script_run.proofs.Turns.{put_fails, put_refused, line_unmade, store_fails, memory_fails}
 use Rattle.script_run.proofs.statements.run_numbered.Goals as goal
 

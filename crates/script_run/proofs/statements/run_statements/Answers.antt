@@ -1,5 +1,5 @@
-use Rattle.std.proofs.Common.{rules, ◌∙◌, refl}
-use Rattle.script_run.proofs.Turns.{accepted_none, accepted_more, accepted_ends, accepted_all}
+use Rattle.std.proofs.Common.{rules, ◌∙◌}
+use Rattle.script_run.proofs.Turns.{accepted_more, accepted_ends, accepted_all}
 use Rattle.script_run.proofs.statements.run_statements.Goals as goal
 
 pub returns-in-Err-clause-runs : goal.returns-in-Err-clause-runs
