@@ -1,0 +1,4 @@
+pub mod Steps
+pub mod VarintLoop
+pub mod Forms
+pub mod Numbers

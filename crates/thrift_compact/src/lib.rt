@@ -1,0 +1,16 @@
+//! The Thrift compact protocol, both ways.
+#![tactic(auto)]
+
+mod cursor;
+mod fault;
+mod header;
+mod kind;
+mod number;
+mod read;
+mod tree;
+mod value;
+
+pub use fault::{Memory, ThriftFault};
+pub use number::read_varint;
+pub use read::read_struct;
+pub use tree::{Blob, Field, Node, NodePairs, Nodes, Tree};
