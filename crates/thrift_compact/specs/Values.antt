@@ -78,7 +78,7 @@ list_by_kind left b None = None
 list_by_kind left b (Some kind) =
     if b / 16 == 15 then Some (record { size = None; kind = kind })
     else if b / 16 == 0 then Some (record { size = Some 0; kind = kind })
-    else if may_stand left kind then Some (record { size = Some (b / 16); kind = kind })
+    else if nat_lt (b / 16) 15 then if may_stand left kind then Some (record { size = Some (b / 16); kind = kind }) else None
     else None
 
 -- the first byte of a list or a set: the size in the upper half, or 15 where it follows; the type of the elements in the lower half
