@@ -6,3 +6,4 @@ pub mod KindLaws
 pub mod Headers
 pub mod FieldLaws
 pub mod ValueLaws
+pub mod Turns

@@ -66,7 +66,7 @@ scalar_reads kind.Struct h = absurd (cc)
 
 -- ---- a field takes a byte that isn't 0
 
-field_starts : (left : ℕ) (inner : Kind → Form Value) (last : ℤ) (front : List ℕ) (x : Field) → g.IsField left inner last front x → Starts front
+pub field_starts : (left : ℕ) (inner : Kind → Form Value) (last : ℤ) (front : List ℕ) (x : Field) → g.IsField left inner last front x → Starts front
 field_starts left inner last front x (h, a, b, split, (inl (delta, above, whole, id, below), stands), value) = record {
   first = 16 * delta + code_of h.kind;
   behind = b;

@@ -1,5 +1,6 @@
 -- Reading from the front of bytes, as functions on lists.
-use Rattle.std.specs.Prelude.{◌≡◌, ℕ, zero, suc, ℤ, pos, negsuc, ◌+◌, ◌-◌, ◌*◌, ◌/◌, ◌%◌, ◌^◌, ◌==◌, Bool, true, false, not, nat_lt, if◌then◌else◌, List, [], ◌∷◌, ◌++◌, length, take, drop, Option, Some, None, Result, Ok, Err}
+use Rattle.std.specs.Prelude.{◌≡◌, ℕ, zero, suc, ℤ, pos, negsuc, ◌+◌, ◌-◌, ◌*◌, ◌/◌, ◌%◌, ◌^◌, ◌==◌, Bool, true, false, not, nat_lt, if◌then◌else◌, List, [], ◌∷◌, ◌++◌, length, slice_get, take, drop, Option, Some, None, Result, Ok, Err}
+use Rattle.std.specs.Option.{option_map_or}
 use Rattle.std.specs.Int.{cast_signed, w8}
 use Rattle.thrift_compact.specs.Values.{plain, sized, list_width, field_of, id_of, truth_of, field_start, size_width, list_start, entry_kinds, varint_byte}
 use Rattle.thrift_compact.specs.declared.kind.Kind.{Kind}
@@ -41,14 +42,15 @@ abbrev pub one : {A : Type 0} → (ℕ → Option A) → Reader A
 one meaning [] = Err []
 one meaning (b ∷ rest) = accepted (meaning b) (b ∷ rest) rest
 
--- the first byte, and those behind it
-abbrev pub next : List ℕ → Option ℕ
-next [] = None
-next (b ∷ rest) = Some b
-
+-- the bytes behind the first
 abbrev pub behind : List ℕ → List ℕ
 behind [] = []
 behind (b ∷ rest) = rest
+
+-- the byte 0 is next, which ends a struct
+abbrev pub is_end : List ℕ → Bool
+is_end [] = false
+is_end (b ∷ rest) = b == 0
 
 -- so many bytes; of fewer, each may stand
 abbrev pub exactly : ℕ → Reader (List ℕ)
@@ -151,6 +153,10 @@ field_value inner kind bytes = inner kind bytes
 
 abbrev pub field : ℕ → (Kind → Reader Value) → ℤ → Reader Field
 field left inner last bytes = field_header left last bytes >>= λ header. made (field_of header.0.id) (field_value inner header.0.kind header.1)
+
+-- the id of the last field, from which the next one is told; 0 before the first
+abbrev pub last_id : List Field → ℤ
+last_id fields = option_map_or id_of (slice_get fields (length fields - 1)) (pos 0)
 
 -- the fields up to the byte 0, at most so many
 unfoldable pub fields_of : (ℤ → Reader Field) → ℕ → ℤ → Reader (List Field)

@@ -1,7 +1,7 @@
 // The bytes that are left to be read.
 ghost use Rattle.std.specs.Prelude.{◌≡◌, length};
 ghost use Rattle.thrift_compact.specs.Values.{truth_of, field_start, list_start, entry_kinds, varint_byte};
-ghost use Rattle.thrift_compact.specs.Reading.{one, exactly, signed_byte, next, behind};
+ghost use Rattle.thrift_compact.specs.Reading.{one, exactly, signed_byte, is_end, behind};
 ghost use Rattle.thrift_compact.specs.Gives.{Finds, GivesBytes};
 
 use crate::fault::Fault;
@@ -37,13 +37,13 @@ impl<'a> Cursor<'a> {
         self.rest.len()
     }
 
-    /// The next byte, which stays.
-    pub(crate) fn peek(&self) -> Option<u8>
-        ensures { result ≡ next self.now }
+    /// Whether the byte that ends a struct is next.
+    pub(crate) fn is_end(&self) -> bool
+        ensures { result ≡ is_end self.now }
     {
         match self.rest {
-            [byte, ..] => Some(*byte),
-            [] => None,
+            [byte, ..] => *byte == 0,
+            [] => false,
         }
     }
 

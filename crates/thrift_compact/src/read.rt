@@ -183,11 +183,13 @@ fn field_value(
     }
 }
 
+/// The field behind these.
 #[cycle(value)]
-fn field(alloc: Global, cursor: &mut Cursor<'_>, left: usize, last: i16) -> Result<Field, Fault>
-    ensures { Gives (spec.field left (spec.value left) last cursor.old) result cursor.new }
+fn field(alloc: Global, cursor: &mut Cursor<'_>, left: usize, before: &Tree) -> Result<Field, Fault>
+    ensures { Gives (spec.field left (spec.value left) (spec.last_id before.now) cursor.old)
+        result cursor.new }
 {
-    let header = field_header(cursor, left, last)?;
+    let header = field_header(cursor, left, last_id(before))?;
     let value = field_value(alloc, cursor, left, header.kind)?;
     Ok(Field {
         id: header.id,
@@ -196,17 +198,24 @@ fn field(alloc: Global, cursor: &mut Cursor<'_>, left: usize, last: i16) -> Resu
     })
 }
 
+/// The id of the last field, from which the next one is told.
+fn last_id(fields: &Tree) -> i16
+    ensures { result ≡ spec.last_id fields.now }
+{
+    match fields.as_slice().last() {
+        Some(field) => field.id,
+        None => 0,
+    }
+}
+
 /// The fields of a struct, up to the byte 0 that ends it.
 #[cycle(value)]
 fn fields(alloc: Global, cursor: &mut Cursor<'_>, left: usize) -> Result<Tree, Fault>
     ensures { Gives (spec.fields left (spec.value left) (pos 0) cursor.old) result cursor.new }
 {
     let mut fields = Items::new(alloc);
-    let mut last = 0;
-    'fields: while cursor.peek() != Some(0) {
-        let field = field(alloc, cursor, left, last)?;
-        last = field.id;
-        fields.push(field)?;
+    'fields: while !cursor.is_end() {
+        fields.push(field(alloc, cursor, left, &fields)?)?;
     }
     cursor.skip();
     Ok(fields)

@@ -42,7 +42,7 @@ abbrev pub invariant-entries-loop : goal.invariant-entries-loop
 invariant-entries-loop l = spec.entries l.left (spec.value l.left) l.size l.fn.cursor ≡ spec.joined l.pairs (spec.times (spec.entry (spec.node (spec.value l.left l.kinds.key)) (spec.node (spec.value l.left l.kinds.value))) (l.size - l.counter) l.cursor)
 
 abbrev pub invariant-fields-fields : goal.invariant-fields-fields
-invariant-fields-fields l = spec.fields l.left (spec.value l.left) (pos 0) l.fn.cursor ≡ spec.joined l.fields (spec.fields l.left (spec.value l.left) l.last l.cursor)
+invariant-fields-fields l = spec.fields l.left (spec.value l.left) (pos 0) l.fn.cursor ≡ spec.joined l.fields (spec.fields l.left (spec.value l.left) (spec.last_id l.fields) l.cursor)
 
 abbrev pub decreases-fields-fields : goal.decreases-fields-fields
 decreases-fields-fields l = length l.cursor
