@@ -7,3 +7,7 @@ pub mod Headers
 pub mod FieldLaws
 pub mod ValueLaws
 pub mod Turns
+pub mod Fronts
+pub mod StructLaws
+pub mod VarintLaws
+pub mod Appending

@@ -3,3 +3,5 @@ pub mod Values
 pub mod Grammar
 pub mod Reading
 pub mod Gives
+pub mod Places
+pub mod Written

@@ -79,6 +79,14 @@ varint_of (suc room) width bytes = one (varint_byte width (nat_lt 0 room)) bytes
 abbrev pub varint : ℕ → Reader ℕ
 varint width = varint_of 10 width
 
+abbrev pub varint_found : ℕ → Outcome ℕ → Option (ℕ × ℕ)
+varint_found total (Ok p) = Some (p.0, total - length p.1)
+varint_found total (Err rest) = None
+
+-- the varint at the front of bytes, and how many of them it takes
+unfoldable pub first_varint : List ℕ → Option (ℕ × ℕ)
+first_varint bytes = varint_found (length bytes) (varint 64 bytes)
+
 -- the number of a zigzag code
 abbrev pub unzigzag : ℕ → ℤ
 unzigzag code = if code % 2 == 0 then pos (code / 2) else negsuc (code / 2)

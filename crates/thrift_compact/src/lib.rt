@@ -5,12 +5,15 @@ mod cursor;
 mod fault;
 mod header;
 mod kind;
+mod laws;
 mod number;
 mod read;
 mod tree;
 mod value;
+mod write;
 
 pub use fault::{Memory, ThriftFault};
+pub use laws::{one_place, one_struct, structs_are_read};
 pub use number::read_varint;
 pub use read::read_struct;
 pub use tree::{Blob, Field, Node, NodePairs, Nodes, Tree};

@@ -1,6 +1,8 @@
 // Varints and zigzag.
-ghost use Rattle.std.specs.Prelude.{◌≡◌, ℕ, ◌^◌, ◌<◌, ◌≤◌, IfOk, length, drop};
-ghost use Rattle.thrift_compact.specs.Reading.{varint_of, varint, whole, unzigzag};
+ghost use Rattle.std.specs.Prelude.{◌≡◌, ℕ, ◌^◌, ◌<◌, ◌≤◌, List, ◌++◌, length, drop, IfOk, IfSome};
+ghost use Rattle.thrift_compact.specs.Grammar.{IsVarint};
+ghost use Rattle.thrift_compact.specs.Reading.{varint, whole, unzigzag, first_varint};
+ghost use Rattle.thrift_compact.specs.Places.{IsFrontVarint};
 ghost use Rattle.thrift_compact.specs.Gives.{Finds};
 
 use crate::cursor::Cursor;
@@ -52,15 +54,29 @@ pub(crate) fn id(cursor: &mut Cursor<'_>) -> Result<i16, Fault>
     Ok(unzigzag(code) as i16)
 }
 
+/// The varint at the front, and how many bytes it takes.
+fn front_varint(bytes: &[u8]) -> Option<(u64, usize)>
+    ensures { result ≡ first_varint bytes.now }
+{
+    let mut cursor = Cursor::new(bytes);
+    match varint(&mut cursor, 64) {
+        Ok(number) => Some((number, bytes.len() - cursor.len())),
+        Err(_) => None,
+    }
+}
+
 /// The varint that begins at `at`, and how many bytes it takes. None, where no varint begins there.
 ///
 /// A varint has 1 to 10 bytes and is below 2^64 (Thrift compact protocol, "Base types"). It may be
 /// longer than the number needs.
-pub fn read_varint(bytes: &[u8], at: usize) -> Option<(u64, usize)> {
-    let rest = bytes.get(at..)?;
-    let mut cursor = Cursor::new(rest);
-    match varint(&mut cursor, 64) {
-        Ok(number) => Some((number, rest.len() - cursor.len())),
-        Err(_) => None,
-    }
+pub fn read_varint(bytes: &[u8], at: usize) -> Option<(u64, usize)>
+    // The varint and its length, as a function of the bytes.
+    ensures read { result ≡ first_varint (drop at bytes.now) }
+    // What is read is spelled so.
+    ensures found { IfSome result (λ found. IsFrontVarint (drop at bytes.now) found.0 found.1) }
+    // What is spelled so is read, whatever follows it.
+    ensures only { (front : List ℕ) (number : ℕ) (more : List ℕ) → IsVarint 64 front number
+        → drop at bytes.now ≡ front ++ more → result ≡ Some (number, length front) }
+{
+    front_varint(&bytes[at.min(bytes.len())..])
 }

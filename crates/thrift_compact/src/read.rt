@@ -1,8 +1,10 @@
 // Reading a struct.
-ghost use Rattle.std.specs.Prelude.{◌≡◌, ℕ, pos, ◌<◌, ◌≤◌, length};
+ghost use Rattle.std.specs.Prelude.{◌≡◌, ℕ, pos, List, ◌++◌, length, IfOk};
+ghost use Rattle.thrift_compact.specs.Grammar.{IsStruct};
 ghost use Rattle.thrift_compact.specs.Reading as spec;
+ghost use Rattle.thrift_compact.specs.Places.{IsFront, IsPlace, IsRead};
 ghost use Rattle.thrift_compact.specs.Gives.{Gives, Finds, Reads};
-ghost use Rattle.thrift_compact.specs.declared.tree.Node.TheVariants as n;
+ghost use Rattle.thrift_compact.specs.declared.tree.Field.{Field as AField};
 
 use crate::cursor::Cursor;
 use crate::fault::{Fault, ThriftFault};
@@ -257,13 +259,9 @@ fn value(alloc: Global, cursor: &mut Cursor<'_>, left: usize, kind: Kind) -> Res
     container(alloc, cursor, left - 1, kind)
 }
 
-/// The struct at the front of the bytes, and how many of them it takes. Bytes may follow it.
-///
-/// The bytes are those of the Thrift compact protocol. Structs, lists, sets and maps nest at most 64
-/// deep, the outermost struct being the first. Where no struct stands at the front, the fault tells
-/// the place of the first byte with which none goes on.
-pub fn read_struct(alloc: Global, bytes: &[u8]) -> Result<(Tree, usize), ThriftFault>
-    ensures read { Reads (spec.read bytes.now) result }
+/// The struct at the front, or the place of the fault.
+fn read_front(alloc: Global, bytes: &[u8]) -> Result<(Tree, usize), ThriftFault>
+    ensures { Reads (spec.read bytes.now) result }
 {
     let mut cursor = Cursor::new(bytes);
     match fields(alloc, &mut cursor, MAX_INNER) {
@@ -273,4 +271,24 @@ pub fn read_struct(alloc: Global, bytes: &[u8]) -> Result<(Tree, usize), ThriftF
         }),
         Err(Fault::Memory) => Err(ThriftFault::Memory),
     }
+}
+
+/// The struct at the front of the bytes, and how many of them it takes. Bytes may follow it.
+///
+/// The bytes are those of the Thrift compact protocol ("Struct encoding"). Structs, lists, sets and
+/// maps nest at most 64 deep, the outermost struct being the first. Where no struct stands at the
+/// front, the fault tells the place of the first byte with which none goes on, or the length, where
+/// the bytes end before.
+pub fn read_struct(alloc: Global, bytes: &[u8]) -> Result<(Tree, usize), ThriftFault>
+    // The struct, or the first fault, as a function of the bytes.
+    ensures read { Reads (spec.read bytes.now) result }
+    // What is read is spelled so.
+    ensures found { IfOk result (λ found. IsFront bytes.now found.0 found.1) }
+    // What is spelled so is read, whatever follows it.
+    ensures only { (front : List ℕ) (tree : List AField) (more : List ℕ) → IsStruct front tree
+        → bytes.now ≡ front ++ more → IsRead tree (length front) result }
+    // No struct goes on with the byte at the place, and the bytes before it go on to one.
+    ensures place { (at : ℕ) → result ≡ Err (ThriftFault.BadThrift at) → IsPlace bytes.now at }
+{
+    read_front(alloc, bytes)
 }

@@ -1,0 +1,27 @@
+// Laws of the grammar and of reading.
+ghost use Rattle.std.specs.Prelude.{◌≡◌, ℕ, List, ◌++◌, length, Ok, Err};
+ghost use Rattle.thrift_compact.specs.Grammar.{IsStruct};
+ghost use Rattle.thrift_compact.specs.Reading.{read};
+ghost use Rattle.thrift_compact.specs.Places.{IsFront, IsPlace};
+ghost use Rattle.thrift_compact.specs.declared.tree.Field.{Field as AField};
+
+/// A law: reading as a function finds exactly the structs, and its fault is the first one.
+pub fn structs_are_read()
+    ensures found { (bytes : List ℕ) (tree : List AField) (size : ℕ)
+        → read bytes ≡ Ok (tree, size) → IsFront bytes tree size }
+    ensures only { (front more : List ℕ) (tree : List AField)
+        → IsStruct front tree → read (front ++ more) ≡ Ok (tree, length front) }
+    ensures place { (bytes : List ℕ) (at : ℕ) → read bytes ≡ Err at → IsPlace bytes at }
+{}
+
+/// A law: the bytes of a struct begin no other, and are those of one struct alone.
+pub fn one_struct()
+    ensures { (front other more rest : List ℕ) (tree also : List AField)
+        → IsStruct front tree → IsStruct other also → front ++ more ≡ other ++ rest
+        → (front ≡ other) × (tree ≡ also) }
+{}
+
+/// A law: bytes have one place at which no struct goes on.
+pub fn one_place()
+    ensures { (bytes : List ℕ) (at also : ℕ) → IsPlace bytes at → IsPlace bytes also → at ≡ also }
+{}
