@@ -11,3 +11,4 @@ pub mod Fronts
 pub mod StructLaws
 pub mod VarintLaws
 pub mod Appending
+pub mod WriteTurns

@@ -30,14 +30,14 @@ whole_kind width = if width == 8 then kind.I8 else if width == 16 then kind.I16 
 
 -- ---- values
 
--- A value as it is written: its type and its bytes as an element, and which truth value it is, if it is one.
+-- A value as it is written: its type and its bytes as an element, and the type by which a field tells it without bytes, if it is a truth value.
 pub record Form : Type 0 where
   pub kind : Kind
-  pub truth : Option Bool
+  pub told : Option Kind
   pub bytes : List ℕ
 
 abbrev pub plain : Kind → List ℕ → Form
-plain kind bytes = record { kind = kind; truth = None; bytes = bytes }
+plain kind bytes = record { kind = kind; told = None; bytes = bytes }
 
 -- a field as it is written
 pub record FieldForm : Type 0 where
@@ -45,7 +45,8 @@ pub record FieldForm : Type 0 where
   pub form : Form
 
 abbrev pub truth : Bool → Form
-truth b = record { kind = kind.False; truth = Some b; bytes = (if b then 1 else 2) ∷ [] }
+truth true = record { kind = kind.False; told = Some kind.True; bytes = 1 ∷ [] }
+truth false = record { kind = kind.False; told = Some kind.False; bytes = 2 ∷ [] }
 
 -- the type of elements, all of one type; that of no elements is struct
 abbrev pub element_kind : List Form → Kind
@@ -70,19 +71,22 @@ field_header_by None id kind = code_of kind ∷ varint (zigzag id)
 abbrev pub field_header : ℤ → ℤ → Kind → List ℕ
 field_header last id kind = field_header_by (short_difference (id -ℤ last)) id kind
 
-abbrev pub field_by : ℤ → ℤ → Option Bool → Form → List ℕ
-field_by last id (Some true) form = field_header last id kind.True
-field_by last id (Some false) form = field_header last id kind.False
+abbrev pub field_by : ℤ → ℤ → Option Kind → Form → List ℕ
+field_by last id (Some kind) form = field_header last id kind
 field_by last id None form = field_header last id form.kind ++ form.bytes
 
--- a field behind one with the id `last`; its type tells a truth value
+-- a field behind one with the id `last`
 abbrev pub field : ℤ → FieldForm → List ℕ
-field last f = field_by last f.id f.form.truth f.form
+field last f = field_by last f.id f.form.told f.form
 
 -- the fields, and the byte 0
 abbrev pub fields : ℤ → List FieldForm → List ℕ
 fields last [] = 0 ∷ []
 fields last (f ∷ fs) = field last f ++ fields f.id fs
+
+-- elements of one width
+abbrev pub at_width : ℕ → List (ℕ → Form) → List Form
+at_width width forms = map (λ form. form width) forms
 
 -- one level of a tree. Maps are not written: no tree with one is writable.
 abbrev pub node_form : Node-F (ℕ → Form) FieldForm → ℕ → Form
@@ -90,8 +94,8 @@ node_form (Node-F.Bool b) width = truth b
 node_form (Node-F.Whole z) width = plain (whole_kind width) (whole width z)
 node_form (Node-F.Double bytes) width = plain kind.Double bytes
 node_form (Node-F.Binary bytes) width = plain kind.Binary (varint (length bytes) ++ bytes)
-node_form (Node-F.List nodes) width = plain kind.List (list (map (λ node. node width) nodes))
-node_form (Node-F.Set nodes) width = plain kind.Set (list (map (λ node. node width) nodes))
+node_form (Node-F.List nodes) width = plain kind.List (list (at_width width nodes))
+node_form (Node-F.Set nodes) width = plain kind.Set (list (at_width width nodes))
 node_form (Node-F.Map pairs) width = plain kind.Map []
 node_form (Node-F.Struct fs) width = plain kind.Struct (fields (pos 0) fs)
 

@@ -11,7 +11,7 @@ use crate::fault::{Fault, ThriftFault};
 use crate::header::{EntryKinds, FieldHeader, ListHeader, may_stand};
 use crate::kind::Kind;
 use crate::number::{id, varint, whole};
-use crate::tree::{Blob, Field, Node, NodePairs, Nodes, Tree};
+use crate::tree::{Blob, Field, Node, NodePairs, Nodes, Tree, last_id};
 use crate::value::{Value, list_width};
 use sqlite_items::Items;
 use std::alloc::Global;
@@ -191,23 +191,13 @@ fn field(alloc: Global, cursor: &mut Cursor<'_>, left: usize, before: &Tree) -> 
     ensures { Gives (spec.field left (spec.value left) (spec.last_id before.now) cursor.old)
         result cursor.new }
 {
-    let header = field_header(cursor, left, last_id(before))?;
+    let header = field_header(cursor, left, last_id(before.as_slice()))?;
     let value = field_value(alloc, cursor, left, header.kind)?;
     Ok(Field {
         id: header.id,
         width: value.width,
         node: value.node,
     })
-}
-
-/// The id of the last field, from which the next one is told.
-fn last_id(fields: &Tree) -> i16
-    ensures { result ≡ spec.last_id fields.now }
-{
-    match fields.as_slice().last() {
-        Some(field) => field.id,
-        None => 0,
-    }
 }
 
 /// The fields of a struct, up to the byte 0 that ends it.

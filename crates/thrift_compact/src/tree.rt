@@ -1,4 +1,7 @@
 // Structs as trees.
+ghost use Rattle.std.specs.Prelude.{◌≡◌};
+ghost use Rattle.thrift_compact.specs.Reading.{last_id as id_of_last};
+
 use sqlite_items::Items;
 
 /// Bytes of a binary value.
@@ -46,4 +49,14 @@ pub enum Node {
     Map(NodePairs),
     /// A struct.
     Struct(Tree),
+}
+
+/// The id of the last field, from which the next one is told.
+pub(crate) fn last_id(fields: &[Field]) -> i16
+    ensures { result ≡ id_of_last fields.now }
+{
+    match fields.last() {
+        Some(field) => field.id,
+        None => 0,
+    }
 }

@@ -1,5 +1,5 @@
 // Writing a struct.
-ghost use Rattle.std.specs.Prelude.{◌≡◌, [], ◌∷◌, ◌++◌, ◌-ℤ◌, length, map, take, OnOk, OnErr};
+ghost use Rattle.std.specs.Prelude.{◌≡◌, [], ◌∷◌, ◌++◌, ◌-ℤ◌, length, map, OnOk, OnErr};
 ghost use Rattle.thrift_compact.specs.Grammar.{zigzag};
 ghost use Rattle.thrift_compact.specs.Reading.{last_id};
 ghost use Rattle.thrift_compact.specs.Places.{KeepsFront};
@@ -7,7 +7,7 @@ ghost use Rattle.thrift_compact.specs.Written as spec;
 
 use crate::fault::Memory;
 use crate::kind::Kind;
-use crate::tree::{Blob, Field, Node, Tree};
+use crate::tree::{self, Blob, Field, Node, Tree};
 use std::alloc::AllocError;
 
 #[tactic(auto, using(crate::proofs::Appending::keeps_same, crate::proofs::Appending::keeps_append))]
@@ -88,9 +88,20 @@ fn element_kind(node: &Node, width: u8) -> Kind
     }
 }
 
+/// The type by which a field tells a truth value, which then has no bytes.
+fn told_kind(node: &Node, width: u8) -> Option<Kind>
+    ensures { result ≡ (spec.form_of node.now width).told }
+{
+    match node {
+        Node::Bool(true) => Some(Kind::True),
+        Node::Bool(false) => Some(Kind::False),
+        _ => None,
+    }
+}
+
 /// The type of the elements of a list: that of the first, and struct for an empty list.
 fn list_kind(nodes: &[Node], width: u8) -> Kind
-    ensures { result ≡ spec.element_kind (map (λ node. spec.form_of node width) nodes.now) }
+    ensures { result ≡ spec.element_kind (spec.at_width width (map spec.form_of nodes.now)) }
 {
     match nodes {
         [first, ..] => element_kind(first, width),
@@ -144,5 +155,68 @@ fn write_field_header(
             push(kind.code(), out)?;
             write_varint(zigzag(i64::from(id)), out)
         }
+    }
+}
+
+/// The elements of a list or a set, behind its header.
+#[cycle(write)]
+fn write_list(nodes: &[Node], width: u8, out: &mut Vec<u8>) -> Result<(), AllocError>
+    ensures ok { OnOk result (out.new.items
+        ≡ out.old.items ++ spec.list (spec.at_width width (map spec.form_of nodes.now))) }
+    ensures front { KeepsFront out.old.items out.new.items }
+{
+    write_list_header(nodes.len(), list_kind(nodes, width), out)?;
+    'nodes: for node in nodes {
+        write_value(node, width, out)?;
+    }
+    Ok(())
+}
+
+/// A field behind others.
+#[cycle(write)]
+fn write_field(field: &Field, before: &[Field], out: &mut Vec<u8>) -> Result<(), AllocError>
+    ensures ok { OnOk result (out.new.items
+        ≡ out.old.items ++ spec.field (last_id before.now) (spec.field_form_of field.now)) }
+    ensures front { KeepsFront out.old.items out.new.items }
+{
+    match told_kind(&field.node, field.width) {
+        Some(kind) => write_field_header(tree::last_id(before), field.id, kind, out),
+        None => {
+            let kind = element_kind(&field.node, field.width);
+            write_field_header(tree::last_id(before), field.id, kind, out)?;
+            write_value(&field.node, field.width, out)
+        }
+    }
+}
+
+/// The fields of a struct, and the byte 0 that ends it.
+#[cycle(write)]
+fn write_fields(fields: &[Field], out: &mut Vec<u8>) -> Result<(), AllocError>
+    ensures ok { OnOk result (out.new.items ≡ out.old.items ++ spec.struct fields.now) }
+    ensures front { KeepsFront out.old.items out.new.items }
+{
+    'fields: for (index, field) in fields.iter().enumerate() {
+        write_field(field, &fields[..index], out)?;
+    }
+    push(0, out)
+}
+
+/// A value of this width as an element.
+#[cycle(write)]
+fn write_value(node: &Node, width: u8, out: &mut Vec<u8>) -> Result<(), AllocError>
+    ensures ok { OnOk result (out.new.items
+        ≡ out.old.items ++ (spec.form_of node.now width).bytes) }
+    ensures front { KeepsFront out.old.items out.new.items }
+{
+    match node {
+        Node::Bool(true) => push(1, out),
+        Node::Bool(false) => push(2, out),
+        Node::Whole(whole) => write_whole(*whole, width, out),
+        Node::Double(bytes) => extend(bytes, out),
+        Node::Binary(blob) => write_binary(blob, out),
+        Node::List(nodes) => write_list(nodes.as_slice(), width, out),
+        Node::Set(nodes) => write_list(nodes.as_slice(), width, out),
+        Node::Map(_) => Ok(()),
+        Node::Struct(fields) => write_fields(fields.as_slice(), out),
     }
 }
