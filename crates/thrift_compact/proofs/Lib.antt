@@ -12,3 +12,5 @@ pub mod StructLaws
 pub mod VarintLaws
 pub mod Appending
 pub mod WriteTurns
+pub mod WrittenNumbers
+pub mod WrittenLaws

@@ -5,3 +5,4 @@ pub mod Reading
 pub mod Gives
 pub mod Places
 pub mod Written
+pub mod Writable
