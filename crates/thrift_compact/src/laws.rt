@@ -1,8 +1,10 @@
 // Laws of the grammar and of reading.
-ghost use Rattle.std.specs.Prelude.{◌≡◌, ℕ, List, ◌++◌, length, Ok, Err};
+ghost use Rattle.std.specs.Prelude.{◌≡◌, ℕ, ◌^◌, ◌<◌, List, ◌++◌, length, Ok, Err};
 ghost use Rattle.thrift_compact.specs.Grammar.{IsStruct};
 ghost use Rattle.thrift_compact.specs.Reading.{read};
 ghost use Rattle.thrift_compact.specs.Places.{IsFront, IsPlace};
+ghost use Rattle.thrift_compact.specs.Writable.{IsWritable};
+ghost use Rattle.thrift_compact.specs.Written.{struct as struct_bytes};
 ghost use Rattle.thrift_compact.specs.declared.tree.Field.{Field as AField};
 
 /// A law: reading as a function finds exactly the structs, and its fault is the first one.
@@ -24,4 +26,14 @@ pub fn one_struct()
 /// A law: bytes have one place at which no struct goes on.
 pub fn one_place()
     ensures { (bytes : List ℕ) (at also : ℕ) → IsPlace bytes at → IsPlace bytes also → at ≡ also }
+{}
+
+/// A law: what is written for a writable tree is a struct of the protocol, and is read as that tree,
+/// whatever follows. A struct of 2^64 bytes or more has no length, and no vector holds it.
+pub fn written_is_read()
+    ensures spelled { (tree : List AField) → IsWritable tree → length (struct_bytes tree) < 2 ^ 64
+        → IsStruct (struct_bytes tree) tree }
+    ensures again { (tree : List AField) (more : List ℕ) → IsWritable tree
+        → length (struct_bytes tree) < 2 ^ 64
+        → read (struct_bytes tree ++ more) ≡ Ok (tree, length (struct_bytes tree)) }
 {}

@@ -13,7 +13,11 @@ mod value;
 mod write;
 
 pub use fault::{Memory, ThriftFault};
-pub use laws::{one_place, one_struct, structs_are_read};
+pub use laws::{one_place, one_struct, structs_are_read, written_is_read};
 pub use number::read_varint;
 pub use read::read_struct;
 pub use tree::{Blob, Field, Node, NodePairs, Nodes, Tree};
+pub use write::write_struct;
+
+#[cfg(test)]
+mod tests;

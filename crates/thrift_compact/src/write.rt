@@ -1,8 +1,9 @@
 // Writing a struct.
-ghost use Rattle.std.specs.Prelude.{◌≡◌, [], ◌∷◌, ◌++◌, ◌-ℤ◌, length, map, OnOk, OnErr};
-ghost use Rattle.thrift_compact.specs.Grammar.{zigzag};
-ghost use Rattle.thrift_compact.specs.Reading.{last_id};
+ghost use Rattle.std.specs.Prelude.{◌≡◌, ℕ, List, [], ◌∷◌, ◌++◌, ◌-ℤ◌, length, map, OnOk, OnErr};
+ghost use Rattle.thrift_compact.specs.Grammar.{zigzag, IsStruct};
+ghost use Rattle.thrift_compact.specs.Reading.{last_id, read};
 ghost use Rattle.thrift_compact.specs.Places.{KeepsFront};
+ghost use Rattle.thrift_compact.specs.Writable.{IsWritable};
 ghost use Rattle.thrift_compact.specs.Written as spec;
 
 use crate::fault::Memory;
@@ -218,5 +219,32 @@ fn write_value(node: &Node, width: u8, out: &mut Vec<u8>) -> Result<(), AllocErr
         Node::Set(nodes) => write_list(nodes.as_slice(), width, out),
         Node::Map(_) => Ok(()),
         Node::Struct(fields) => write_fields(fields.as_slice(), out),
+    }
+}
+
+/// Appends the bytes of a struct, in the shortest spelling that the protocol allows. An empty list
+/// has elements of the type struct. After a fault `out` is as before.
+///
+/// The tree must be writable: it holds no map, and no list or set within a list or a set; the
+/// elements of each list are of one type; the whole numbers fit their width; and it nests at most
+/// 64 deep, the tree itself being the first.
+pub fn write_struct(tree: &Tree, out: &mut Vec<u8>) -> Result<(), Memory>
+    requires { IsWritable tree.now }
+    // The bytes, as a function of the tree.
+    ensures written { OnOk result (out.new.items ≡ out.old.items ++ spec.struct tree.now) }
+    // They are spelled as the protocol says.
+    ensures spelled { OnOk result (IsStruct (spec.struct tree.now) tree.now) }
+    // They are read as this tree, whatever follows.
+    ensures again { OnOk result ((more : List ℕ) → read (spec.struct tree.now ++ more)
+        ≡ Ok (tree.now, length (spec.struct tree.now))) }
+    ensures memory { OnErr result (out.new.items ≡ out.old.items) }
+{
+    let length = out.len();
+    match write_fields(tree.as_slice(), out) {
+        Ok(()) => Ok(()),
+        Err(_) => {
+            out.truncate(length);
+            Err(Memory)
+        }
     }
 }
