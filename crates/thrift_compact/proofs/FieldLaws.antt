@@ -87,19 +87,18 @@ module _ (F : ℤ → Form Field) (f : ℤ → Reader Field) (reads : (last : �
           let first = (reads last).found (b ∷ bytes) p.0 p.1 e in
           let fewer = shorter last b bytes p.0 p.1 e in
           let behind = again (id_of p.0) p.1 (omega (arith, fewer)) onward.0 rest onward.1 in
-          let all_of_them : IsFields F last (first.0 ++ behind.0) (p.0 ∷ onward.0) = (first.0, behind.0, refl, first.2, behind.2) in
-          (
+          let all_of_them : IsFields F last (first.0 ++ behind.0) (p.0 ∷ onward.0) = (first.0, behind.0, refl, first.2, behind.2) in (
             first.0 ++ behind.0,
             first.1 ∙ ap (λ r. first.0 ++ r) behind.1 ∙ sym (append_assoc first.0 behind.0 rest),
             subst (λ xs. IsFields F last (first.0 ++ behind.0) xs) (sym onward.2) all_of_them,
           )
+
       by_end : FoundOf n → (test : Bool) → eqb b 0 ≡ test → (front : List ℕ) × (b ∷ bytes ≡ front ++ rest) × IsFields F last front fs
       by_end again false e = by_field again e _ refl
       by_end again true e =
           let both : ◌≡◌ {A = Outcome (List Field)} (Ok ([], bytes)) (Ok (fs, rest)) = sym (all_end last b bytes e) ∙ is in
           let pair : ◌≡◌ {A = List Field × List ℕ} ([], bytes) (fs, rest) = cc in
-          let none : b ≡ 0 = eqb-true b 0 e in
-          (
+          let none : b ≡ 0 = eqb-true b 0 e in (
             0 ∷ [],
             ap (λ c. c ∷ bytes) none ∙ ap (λ r. 0 ∷ r) (ap (λ (q : List Field × List ℕ). q.1) pair),
             subst (λ xs. IsFields F last (0 ∷ []) xs) (ap (λ (q : List Field × List ℕ). q.0) pair) refl,
@@ -174,6 +173,7 @@ module _ (F : ℤ → Form Field) (f : ℤ → Reader Field) (reads : (last : �
                 let field : f last (start.first ∷ (start.behind ++ tail)) ≡ Ok (p.0, tail) = ap (λ z. f last (z ++ tail)) (sym start.split) ∙ (reads last).only first.0 p.0 tail first.2 in
                 ap (all last) whole ∙ all_ok last start.first (start.behind ++ tail) p.0 tail start.some field ∙ ap (made (λ xs. p.0 ∷ xs)) (st.dead c behind other eq);
           }
+
       by_end : StopsOf n → (test : Bool) → eqb b 0 ≡ test → Stops (IsFields F last) (all last) (b ∷ bytes) rest
       by_end again false e = by_field again e _ refl
       by_end again true e = absurd (let both : ◌≡◌ {A = Outcome (List Field)} (Ok ([], bytes)) (Err rest) = sym (all_end last b bytes e) ∙ is in cc)

@@ -181,8 +181,7 @@ module _ (count : ℕ) where
       let pair : ◌≡◌ {A = List ℕ × List ℕ} (take count bytes, drop count bytes) (x, rest) = cc in
       let front : take count bytes ≡ x = ap (λ (p : List ℕ × List ℕ). p.0) pair in
       let back : drop count bytes ≡ rest = ap (λ (p : List ℕ × List ℕ). p.1) pair in
-      let enough : count ≤ length bytes = ltb-false (length bytes) count e in
-      (
+      let enough : count ≤ length bytes = ltb-false (length bytes) count e in (
         take count bytes,
         sym (take-append-drop count bytes) ∙ ap (λ r. take count bytes ++ r) back,
         (length-take count bytes ∙ omega arith, sym front),

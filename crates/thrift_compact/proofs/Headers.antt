@@ -131,7 +131,7 @@ module _ (left : ℕ) (last : ℤ) where
   pub field_header_reads : Reads (IsFieldHeader left last) (field_header left last)
   field_header_reads = same_reads (IsFieldHeader left last)
       (then_reads (λ s. Unit {0}) (ByteOf (field_start left last)) (one (field_start left last)) (λ s. AfterStart s.kind s.id) (λ s bytes. header_id s.kind s.id bytes)
-        (byte_reads (field_start left last) (code_of kind.True) (start_of None kind.True) (long_start left last kind.True refl)) (λ front s r. tt) (λ s p. after_start_reads s.kind s.id))
+      (byte_reads (field_start left last) (code_of kind.True) (start_of None kind.True) (long_start left last kind.True refl)) (λ front s r. tt) (λ s p. after_start_reads s.kind s.id))
       field_header_to field_header_back
 
 -- ---- the header of a list or a set
@@ -196,12 +196,16 @@ short_list left k size small holds = kind_first ∙ rw long (by_room holds)
   where
     range : IsCode (code_of k)
     range = code_range k
+
     half : (16 * size + code_of k) / 16 ≡ size
     half = omega (arith, range.high)
+
     kind_first : list_by_kind left (16 * size + code_of k) (kind_of ((16 * size + code_of k) % 16)) ≡ list_by_kind left (16 * size + code_of k) (Some k)
     kind_first = ap (list_by_kind left (16 * size + code_of k)) (ap kind_of (omega (arith, range.high)) ∙ kind_of-code k)
+
     long : eqb ((16 * size + code_of k) / 16) 15 ≡ false
     long = grind (arith, half)
+
     by_room : MayHold left k size → cond (eqb ((16 * size + code_of k) / 16) 0) (Some (list_start_of (Some 0) k)) (cond (ltb ((16 * size + code_of k) / 16) 15) (cond (may_stand left k) (Some (list_start_of (Some ((16 * size + code_of k) / 16)) k)) None) None) ≡ Some (list_start_of (Some size) k)
     by_room (inl none) =
         let zero_is : eqb ((16 * size + code_of k) / 16) 0 ≡ true = eq-eqb _ _ (half ∙ none) in
@@ -259,7 +263,7 @@ module _ (left : ℕ) where
   pub list_header_reads : Reads (IsListHeader left) (list_header left)
   list_header_reads = same_reads (IsListHeader left)
       (then_reads (λ s. Unit {0}) (ByteOf (list_start left)) (one (list_start left)) (λ s. AfterListStart left s.kind s.size) (λ s bytes. list_size left s.kind s.size bytes)
-        (byte_reads (list_start left) (240 + code_of kind.True) (list_start_of None kind.True) (long_list left kind.True)) (λ front s r. tt) (λ s p. after_list_start_reads left s.kind s.size))
+      (byte_reads (list_start left) (240 + code_of kind.True) (list_start_of None kind.True) (long_list left kind.True)) (λ front s r. tt) (λ s p. after_list_start_reads left s.kind s.size))
       list_header_to list_header_back
 
 -- ---- the types of a map

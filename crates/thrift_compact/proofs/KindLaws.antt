@@ -48,21 +48,21 @@ pub code-kind_of : (c : ℕ) (k : Kind) → kind_of c ≡ Some k → c ≡ code_
 unfolding kind_of
 code-kind_of c k =
     peel c kind.True k _ (
-      peel c kind.False k _ (
-        peel c kind.I8 k _ (
-          peel c kind.I16 k _ (
-            peel c kind.I32 k _ (
-              peel c kind.I64 k _ (
-                peel c kind.Double k _ (
-                  peel c kind.Binary k _ (
-                    peel c kind.List k _ (peel c kind.Set k _ (peel c kind.Map k _ (peel c kind.Struct k None (λ e. absurd (cc)) _ refl) _ refl) _ refl) _ refl
-                  ) _ refl
-                ) _ refl
-              ) _ refl
-            ) _ refl
-          ) _ refl
-        ) _ refl
-      ) _ refl
+    peel c kind.False k _ (
+    peel c kind.I8 k _ (
+    peel c kind.I16 k _ (
+    peel c kind.I32 k _ (
+    peel c kind.I64 k _ (
+    peel c kind.Double k _ (
+    peel c kind.Binary k _ (
+    peel c kind.List k _ (peel c kind.Set k _ (peel c kind.Map k _ (peel c kind.Struct k None (λ e. absurd (cc)) _ refl) _ refl) _ refl) _ refl
+    ) _ refl
+    ) _ refl
+    ) _ refl
+    ) _ refl
+    ) _ refl
+    ) _ refl
+    ) _ refl
     ) _ refl
 
 -- ---- a type that may stand

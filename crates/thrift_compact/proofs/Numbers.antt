@@ -81,6 +81,7 @@ uleb_to room width bytes number (byte, a, b, split, r, s) = by_more byte.more re
   where
     known : Means width (ltb 0 room) r.0 byte
     known = means width (ltb 0 room) r.0 byte r.2
+
     by_more : (more : Bool) → byte.more ≡ more → elim more as (λ _. Type 0) [ true ↦ Made (λ high. byte.low + 128 * high) (Uleb room (width - 7)) b number | false ↦ Nothing byte.low b number ] → Uleb (suc room) width bytes number
     by_more false e s =
         let whole : bytes ≡ r.0 ∷ [] = split ∙ ap (λ x. x ++ b) r.1 ∙ ap (λ x. r.0 ∷ x) s.0 in
@@ -121,8 +122,7 @@ uleb_back room width (b ∷ c ∷ cs) number is =
     let more = is.uleb in
     let high = more.1 in
     let longer : 0 < room = omega (arith, is.short) in
-    let goes : ltb 0 room ≡ true = lt-ltb 0 room longer in
-    (
+    let goes : ltb 0 room ≡ true = lt-ltb 0 room longer in (
       byte_of (b % 128) true,
       b ∷ [],
       c ∷ cs,

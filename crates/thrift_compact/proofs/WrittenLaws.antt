@@ -55,10 +55,13 @@ field_short left last id k (Some delta) e fits stands = (inl (delta, above, refl
             let both : ◌≡◌ {A = Option ℕ} (Some m) (Some delta) = rw (f, h) at e in
             let same : m ≡ delta = cc in
             (omega (arith, same, ltb-true 0 m f), ap pos same)
+
     above : 0 < delta
     above = (difference (id -ℤ last) delta e).0
+
     next : id ≡ last +ℤ pos delta
     next = let d = (difference (id -ℤ last) delta e).1 in omega (arith, ints, d)
+
     below : id ≤ℤ pos 32767
     below = let high = fits.sfits in omega (arith, ints, fits)
 
@@ -215,8 +218,7 @@ list_is left width below (x ∷ xs) are room =
     let each = elements_are left width k below (x ∷ xs) are (omega (arith, lengths, room)) in
     let split : w.list (forms_of width (x ∷ xs)) ≡ w.list_header (length (x ∷ xs)) k ++ back = ap (λ c. w.list_header c k ++ back) size in
     let first = below width x are.0.value (λ none. omega (arith, lengths, room, elements_first width x xs)) in
-    let widths : width_of k ≡ width = kind_width left width x are.0.alone are.0.value in
-    (
+    let widths : width_of k ≡ width = kind_width left width x are.0.alone are.0.value in (
       record { size = length (x ∷ xs); kind = k },
       w.list_header (length (x ∷ xs)) k,
       back,

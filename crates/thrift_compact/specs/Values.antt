@@ -43,9 +43,9 @@ truth_of b = if b == 1 then Some true else if b == 0 || b == 2 then Some false e
 unfoldable pub varint_byte : ℕ → Bool → ℕ → Option VarintByte
 varint_byte width may_go_on b =
     if nat_lt (b % 128) (2 ^ width) then
-      if nat_lt b 128 then Some (record { low = b % 128; more = false })
-      else if may_go_on then Some (record { low = b % 128; more = true })
-      else None
+    if nat_lt b 128 then Some (record { low = b % 128; more = false })
+    else if may_go_on then Some (record { low = b % 128; more = true })
+    else None
     else None
 
 -- the id behind `last` by this difference, which is at most 32767

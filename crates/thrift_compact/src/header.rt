@@ -123,7 +123,10 @@ impl ListStart {
         let kind = Kind::from_code(byte % 16)?;
         match byte / 16 {
             15 => Some(ListStart { size: None, kind }),
-            0 => Some(ListStart { size: Some(0), kind }),
+            0 => Some(ListStart {
+                size: Some(0),
+                kind,
+            }),
             size if may_stand(kind, left) => Some(ListStart {
                 size: Some(u64::from(size)),
                 kind,

@@ -83,12 +83,7 @@ fn field_header(cursor: &mut Cursor<'_>, left: usize, last: i16) -> Result<Field
 }
 
 #[cycle(value)]
-fn element(
-    alloc: Global,
-    cursor: &mut Cursor<'_>,
-    left: usize,
-    kind: Kind,
-) -> Result<Node, Fault>
+fn element(alloc: Global, cursor: &mut Cursor<'_>, left: usize, kind: Kind) -> Result<Node, Fault>
     ensures { Gives (spec.node (spec.value left kind) cursor.old) result cursor.new }
 {
     let value = value(alloc, cursor, left, kind)?;
@@ -226,11 +221,17 @@ fn container(
     match kind {
         Kind::List => {
             let (nodes, width) = list(alloc, cursor, left)?;
-            Ok(Value { width, node: Node::List(nodes) })
+            Ok(Value {
+                width,
+                node: Node::List(nodes),
+            })
         }
         Kind::Set => {
             let (nodes, width) = list(alloc, cursor, left)?;
-            Ok(Value { width, node: Node::Set(nodes) })
+            Ok(Value {
+                width,
+                node: Node::Set(nodes),
+            })
         }
         Kind::Map => Ok(Value::plain(Node::Map(map(alloc, cursor, left)?))),
         Kind::Struct => Ok(Value::plain(Node::Struct(fields(alloc, cursor, left)?))),

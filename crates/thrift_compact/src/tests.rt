@@ -5,6 +5,7 @@ ghost use Rattle.thrift_compact.specs.Writable.{IsWritable};
 use crate::{Field, Node, ThriftFault, Tree, read_struct, read_varint, write_struct};
 use sqlite_items::Items;
 use std::alloc::{AllocError, Global};
+use std::fmt::Write;
 use std::test::Fail;
 
 /// Fields without the byte 0 that ends them, and how `show` shows them.
@@ -15,9 +16,15 @@ const GOOD: [(&[u8], &str); 26] = [
     (b"\x14\x05", "1/16=-3;"),
     (b"\x15\xff\xff\xff\xff\x0f", "1/32=-2147483648;"),
     (b"\x16\x16", "1/64=11;"),
-    (b"\x16\xff\xff\xff\xff\xff\xff\xff\xff\xff\x01", "1/64=-9223372036854775808;"),
+    (
+        b"\x16\xff\xff\xff\xff\xff\xff\xff\xff\xff\x01",
+        "1/64=-9223372036854775808;",
+    ),
     (b"\x15\x82\x80\x80\x80\x80\x80\x80\x80\x80\x00", "1/32=1;"),
-    (b"\x17\x00\x00\x00\x00\x00\x00\xf8\x7f", "1/0=d000000000000f87f;"),
+    (
+        b"\x17\x00\x00\x00\x00\x00\x00\xf8\x7f",
+        "1/0=d000000000000f87f;",
+    ),
     (b"\x18\x02ab", "1/0=b6162;"),
     (b"\x18\x80\x00", "1/0=b;"),
     (b"\x19\x25\x02\x04", "1/32=[1,2,];"),
@@ -33,7 +40,10 @@ const GOOD: [(&[u8], &str); 26] = [
     (b"\x1c\x15\x02\x00", "1/0=(1/32=1;);"),
     (b"\x19\x2c\x11\x00\x00", "1/0=[(1/0=T;),(),];"),
     (b"\x01\xfe\xff\x03\x01\xff\xff\x03", "32767/0=T;-32768/0=T;"),
-    (b"\x25\x02\x05\x02\x04\x05\x01\x06\x15\x08", "2/32=1;1/32=2;-1/32=3;0/32=4;"),
+    (
+        b"\x25\x02\x05\x02\x04\x05\x01\x06\x15\x08",
+        "2/32=1;1/32=2;-1/32=3;0/32=4;",
+    ),
     (
         b"\x15\x00\x15\x16\x15\x16\x2c\x15\x04\x15\x00\x15\x06\x15\x06\x00",
         "1/32=0;2/32=11;3/32=11;5/0=(1/32=2;2/32=0;3/32=3;4/32=3;);",
@@ -68,9 +78,225 @@ const BAD: [(&[u8], usize); 24] = [
     (b"\x1b\x01\x08\x00", 2),
 ];
 
-fn show_bytes(bytes: &[u8], out: &mut String) -> Result<(), Fail> {
+fn show_bytes(bytes: &[u8], out: &mut String) -> Result<(), AllocError> {
     for byte in bytes {
-        out.push_str(format!(in *out.allocator(); "{byte:02x}")?.as_str())?;
+        write!(out, "{byte:02x}")?;
     }
+    Ok(())
+}
+
+#[cycle(show)]
+fn show_nodes(nodes: &[Node], out: &mut String) -> Result<(), AllocError> {
+    for node in nodes {
+        show_node(node, out)?;
+        out.push_str(",")?;
+    }
+    Ok(())
+}
+
+#[cycle(show)]
+fn show_pairs(pairs: &[(Node, Node)], out: &mut String) -> Result<(), AllocError> {
+    for (key, value) in pairs {
+        show_node(key, out)?;
+        out.push_str(":")?;
+        show_node(value, out)?;
+        out.push_str(",")?;
+    }
+    Ok(())
+}
+
+#[cycle(show)]
+fn show_node(node: &Node, out: &mut String) -> Result<(), AllocError> {
+    match node {
+        Node::Bool(true) => out.push_str("T"),
+        Node::Bool(false) => out.push_str("F"),
+        Node::Whole(whole) => write!(out, "{whole}"),
+        Node::Double(bytes) => {
+            out.push_str("d")?;
+            show_bytes(bytes, out)
+        }
+        Node::Binary(blob) => {
+            out.push_str("b")?;
+            show_bytes(blob.as_slice(), out)
+        }
+        Node::List(nodes) => {
+            out.push_str("[")?;
+            show_nodes(nodes.as_slice(), out)?;
+            out.push_str("]")
+        }
+        Node::Set(nodes) => {
+            out.push_str("{")?;
+            show_nodes(nodes.as_slice(), out)?;
+            out.push_str("}")
+        }
+        Node::Map(pairs) => {
+            out.push_str("<")?;
+            show_pairs(pairs.as_slice(), out)?;
+            out.push_str(">")
+        }
+        Node::Struct(fields) => {
+            out.push_str("(")?;
+            show_fields(fields.as_slice(), out)?;
+            out.push_str(")")
+        }
+    }
+}
+
+/// Each field as its id, its width and its value.
+#[cycle(show)]
+fn show_fields(fields: &[Field], out: &mut String) -> Result<(), AllocError> {
+    for field in fields {
+        let id = field.id;
+        let width = field.width;
+        write!(out, "{id}/{width}=")?;
+        show_node(&field.node, out)?;
+        out.push_str(";")?;
+    }
+    Ok(())
+}
+
+/// The place of the fault.
+fn place(alloc: Global, bytes: &[u8]) -> Option<usize> {
+    match read_struct(alloc, bytes) {
+        Err(ThriftFault::BadThrift { at }) => Some(at),
+        _ => None,
+    }
+}
+
+#[test]
+fn structs_are_read_and_cut_ones_are_not(rt: HostRuntime) -> Result<(), Fail> {
+    let alloc = rt.alloc();
+    for (fields, shown) in GOOD {
+        let mut bytes = Vec::from_slice(alloc, fields)?;
+        bytes.push(0)?;
+        for cut in 0..bytes.len() {
+            let front = bytes.get(..cut).ok_or("no front")?;
+            assert_eq!(rt; place(alloc, front), Some(cut), "{shown} cut at {cut}");
+        }
+        let size = bytes.len();
+        bytes.push(0xff)?;
+        let (tree, taken) = read_struct(alloc, &bytes)?;
+        let mut text = String::new(alloc);
+        show_fields(tree.as_slice(), &mut text)?;
+        assert_eq!(rt; text.as_str(), shown);
+        assert_eq!(rt; taken, size, "{shown}");
+    }
+    Ok(())
+}
+
+#[test]
+fn faults_have_their_places(rt: HostRuntime) -> Result<(), Fail> {
+    let alloc = rt.alloc();
+    for (bytes, at) in BAD {
+        assert_eq!(rt; place(alloc, bytes), Some(at), "{bytes:?}");
+    }
+    Ok(())
+}
+
+#[test]
+fn structs_nest_at_most_64_deep(rt: HostRuntime) -> Result<(), Fail> {
+    let alloc = rt.alloc();
+    let mut deep = vec![in alloc; 0x1c; 63]?;
+    deep.extend_from_slice(&[0; 64])?;
+    let (_, taken) = read_struct(alloc, &deep)?;
+    assert_eq!(rt; taken, 127);
+    let deeper = vec![in alloc; 0x1c; 200]?;
+    assert_eq!(rt; place(alloc, &deeper), Some(63));
+    // A list as the 64th: it may be empty, and hold no struct, however its size is spelled.
+    for (ends, at) in [
+        (&[0x19, 0x0c][..], None),
+        (&[0x19, 0xfc, 0x80, 0x00], None),
+        (&[0x19, 0x11, 0x01], None),
+        (&[0x19, 0x1c], Some(63)),
+        (&[0x19, 0xfc, 0x80, 0x01], Some(65)),
+        (&[0x1b, 0x01, 0x1c], Some(64)),
+    ] {
+        let mut bytes = vec![in alloc; 0x1c; 62]?;
+        bytes.extend_from_slice(ends)?;
+        bytes.extend_from_slice(&[0; 63])?;
+        assert_eq!(rt; place(alloc, &bytes), at, "{ends:?}");
+    }
+    Ok(())
+}
+
+#[test]
+fn a_million_fields_are_read(rt: HostRuntime) -> Result<(), Fail> {
+    let alloc = rt.alloc();
+    let mut bytes = Vec::new(alloc);
+    for _ in 0..1_000_000 {
+        bytes.extend_from_slice(&[0x01, 0x02])?;
+    }
+    bytes.push(0)?;
+    let (tree, taken) = read_struct(alloc, &bytes)?;
+    assert_eq!(rt; tree.len(), 1_000_000);
+    assert_eq!(rt; taken, 2_000_001);
+    Ok(())
+}
+
+#[test]
+fn varints_are_read(rt: HostRuntime) {
+    assert_eq!(rt; read_varint(&[0xac, 0x02, 0x05], 0), Some((300, 2)));
+    assert_eq!(rt; read_varint(&[0xac, 0x02, 0x05], 1), Some((2, 1)));
+    assert_eq!(rt; read_varint(&[0xac, 0x02, 0x85], 2), None);
+    assert_eq!(rt; read_varint(&[0xac, 0x02], 3), None);
+    assert_eq!(rt; read_varint(&[0x85, 0x80, 0x00], 0), Some((5, 3)));
+}
+
+/// A page header of a data page.
+fn page_header(alloc: Global) -> Result<Tree, AllocError>
+    ensures { IfOk result (λ tree. IsWritable tree) }
+{
+    let mut data = Items::new(alloc);
+    data.push(Field {
+        id: 1,
+        width: 32,
+        node: Node::Whole(2),
+    })?;
+    data.push(Field {
+        id: 2,
+        width: 32,
+        node: Node::Whole(0),
+    })?;
+    data.push(Field {
+        id: 3,
+        width: 32,
+        node: Node::Whole(3),
+    })?;
+    data.push(Field {
+        id: 4,
+        width: 32,
+        node: Node::Whole(3),
+    })?;
+    let mut header = Items::new(alloc);
+    header.push(Field {
+        id: 1,
+        width: 32,
+        node: Node::Whole(0),
+    })?;
+    header.push(Field {
+        id: 2,
+        width: 32,
+        node: Node::Whole(11),
+    })?;
+    header.push(Field {
+        id: 3,
+        width: 32,
+        node: Node::Whole(11),
+    })?;
+    header.push(Field {
+        id: 5,
+        width: 0,
+        node: Node::Struct(data),
+    })?;
+    Ok(header)
+}
+
+#[test]
+fn a_page_header_is_written(rt: HostRuntime) -> Result<(), Fail> {
+    let alloc = rt.alloc();
+    let mut out = Vec::from_slice(alloc, b"P")?;
+    write_struct(&page_header(alloc)?, &mut out)?;
+    let wanted: &[u8] = b"P\x15\x00\x15\x16\x15\x16\x2c\x15\x04\x15\x00\x15\x06\x15\x06\x00\x00";
+    assert_eq!(rt; out.as_slice(), wanted);
     Ok(())
 }

@@ -141,12 +141,7 @@ fn short_difference(last: i16, id: i16) -> Option<u8>
     }
 }
 
-fn write_field_header(
-    last: i16,
-    id: i16,
-    kind: Kind,
-    out: &mut Vec<u8>,
-) -> Result<(), AllocError>
+fn write_field_header(last: i16, id: i16, kind: Kind, out: &mut Vec<u8>) -> Result<(), AllocError>
     ensures ok { OnOk result (out.new.items ≡ out.old.items ++ spec.field_header last id kind) }
     ensures front { KeepsFront out.old.items out.new.items }
 {
