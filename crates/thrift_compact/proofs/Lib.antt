@@ -14,3 +14,4 @@ pub mod Appending
 pub mod WriteTurns
 pub mod WrittenNumbers
 pub mod WrittenLaws
+pub mod WritableLaws

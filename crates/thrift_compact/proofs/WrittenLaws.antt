@@ -163,10 +163,10 @@ list_some forms = omega (arith, length-append (w.list_header (length forms) (w.e
 
 -- ---- one level
 
-abbrev step_at : Node-F Node Field → ℕ → w.Form
+abbrev pub step_at : Node-F Node Field → ℕ → w.Form
 step_at o = w.node_form (map-Node Node Field (ℕ → w.Form) w.FieldForm w.form_of w.field_form_of o)
 
-form_is : (node : Node) (o : Node-F Node Field) → out-Node node ≡ o → w.form_of node ≡ step_at o
+pub form_is : (node : Node) (o : Node-F Node Field) → out-Node node ≡ o → w.form_of node ≡ step_at o
 form_is node o e = fold_out-Node (ℕ → w.Form) w.FieldForm w.node_form w.field_form node ∙ ap step_at e
 
 whole_width : (width : ℕ) (z : ℤ) → IsWholeOf width z → width_of (w.whole_kind width) ≡ width
@@ -210,7 +210,8 @@ kind_width (suc left) width node alone is = ap (λ f. width_of (f width).kind) (
 list_is : (left width : ℕ) → Below left → (nodes : List Node) → AreElements (IsWritableValue left) width nodes → length (w.list (forms_of width nodes)) < 2 ^ 64 → g.IsList left (g.IsValue left) (w.list (forms_of width nodes)) (nodes, width)
 list_is left width below [] are room =
     (record { size = 0; kind = kind.Struct }, w.list_header 0 kind.Struct, [], refl, list_header_is left 0 kind.Struct (omega arith) (inl refl), ([], (refl, refl), ap (λ v. ([], v)) are))
-list_is left width below (x ∷ xs) are room =
+list_is left width below (x ∷ xs) some room =
+    let are : AllByRecursion (IsElement (IsWritableValue left) width (w.form_of x width).kind) (x ∷ xs) = subst (λ z. AllByRecursion (IsElement (IsWritableValue left) width z) (x ∷ xs)) (sym some.1.0.same) some.1 in
     let k : Kind = (w.form_of x width).kind in
     let back : List ℕ = bytes_of (forms_of width (x ∷ xs)) in
     let size : length (forms_of width (x ∷ xs)) ≡ length (x ∷ xs) = length-map (map w.form_of (x ∷ xs)) (λ (form : ℕ → w.Form). form width) ∙ length-map (x ∷ xs) w.form_of in

@@ -42,7 +42,7 @@ pub record IsElement (inner : ℕ → Node → Type 0) (width : ℕ) (kind : Kin
 -- elements of one type, none of them a list, a set or a map; the width is that of whole numbers among them
 abbrev pub AreElements : (ℕ → Node → Type 0) → ℕ → List Node → Type 0
 AreElements inner width [] = width ≡ 0
-AreElements inner width (node ∷ nodes) = AllByRecursion (IsElement inner width (form_of node width).kind) (node ∷ nodes)
+AreElements inner width (node ∷ nodes) = (kind : Kind) × AllByRecursion (IsElement inner width kind) (node ∷ nodes)
 
 -- The id is one of 16 bits, as every id of a tree; a law doesn't know this of itself.
 pub record IsField (inner : ℕ → Node → Type 0) (field : Field) : Type 0 where

@@ -13,7 +13,7 @@ mod value;
 mod write;
 
 pub use fault::{Memory, ThriftFault};
-pub use laws::{one_place, one_struct, structs_are_read, written_is_read};
+pub use laws::{one_place, one_struct, structs_are_read, writable_values, written_is_read};
 pub use number::read_varint;
 pub use read::read_struct;
 pub use tree::{Blob, Field, Node, NodePairs, Nodes, Tree};

@@ -1,6 +1,7 @@
 // Structs spelled by hand after the protocol's document, and bytes that are no struct.
-ghost use Rattle.std.specs.Prelude.{IfOk};
-ghost use Rattle.thrift_compact.specs.Writable.{IsWritable};
+ghost use Rattle.std.specs.Prelude.{ℕ, IfOk};
+ghost use Rattle.std.specs.List.{AllByRecursion};
+ghost use Rattle.thrift_compact.specs.Writable.{IsField, IsWritable, IsWritableValue};
 
 use crate::{Field, Node, ThriftFault, Tree, read_struct, read_varint, write_struct};
 use sqlite_items::Items;
@@ -9,44 +10,47 @@ use std::fmt::Write;
 use std::test::Fail;
 
 /// Fields without the byte 0 that ends them, and how `show` shows them.
-const GOOD: [(&[u8], &str); 26] = [
-    (b"", ""),
-    (b"\x11\x12", "1/0=T;2/0=F;"),
-    (b"\x13\xfd", "1/8=-3;"),
-    (b"\x14\x05", "1/16=-3;"),
-    (b"\x15\xff\xff\xff\xff\x0f", "1/32=-2147483648;"),
-    (b"\x16\x16", "1/64=11;"),
+const GOOD: [(&[u8], &[u8]); 26] = [
+    (b"", b""),
+    (b"\x11\x12", b"1/0=T;2/0=F;"),
+    (b"\x13\xfd", b"1/8=-3;"),
+    (b"\x14\x05", b"1/16=-3;"),
+    (b"\x15\xff\xff\xff\xff\x0f", b"1/32=-2147483648;"),
+    (b"\x16\x16", b"1/64=11;"),
     (
         b"\x16\xff\xff\xff\xff\xff\xff\xff\xff\xff\x01",
-        "1/64=-9223372036854775808;",
+        b"1/64=-9223372036854775808;",
     ),
-    (b"\x15\x82\x80\x80\x80\x80\x80\x80\x80\x80\x00", "1/32=1;"),
+    (b"\x15\x82\x80\x80\x80\x80\x80\x80\x80\x80\x00", b"1/32=1;"),
     (
         b"\x17\x00\x00\x00\x00\x00\x00\xf8\x7f",
-        "1/0=d000000000000f87f;",
+        b"1/0=d000000000000f87f;",
     ),
-    (b"\x18\x02ab", "1/0=b6162;"),
-    (b"\x18\x80\x00", "1/0=b;"),
-    (b"\x19\x25\x02\x04", "1/32=[1,2,];"),
-    (b"\x19\xf5\x01\x02", "1/32=[1,];"),
-    (b"\x19\x05\x19\xf3\x00", "1/0=[];2/0=[];"),
-    (b"\x19\x31\x01\x00\x02", "1/0=[T,F,F,];"),
-    (b"\x19\x22\x02\x01", "1/0=[F,T,];"),
-    (b"\x19\x18\x01a", "1/0=[b61,];"),
-    (b"\x19\x19\x13\xff", "1/0=[[-1,],];"),
-    (b"\x1a\x13\x07", "1/8={7,};"),
-    (b"\x1b\x00", "1/0=<>;"),
-    (b"\x1b\x02\x51\x02\x01\x04\x02", "1/0=<1:T,2:F,>;"),
-    (b"\x1c\x15\x02\x00", "1/0=(1/32=1;);"),
-    (b"\x19\x2c\x11\x00\x00", "1/0=[(1/0=T;),(),];"),
-    (b"\x01\xfe\xff\x03\x01\xff\xff\x03", "32767/0=T;-32768/0=T;"),
+    (b"\x18\x02ab", b"1/0=b6162;"),
+    (b"\x18\x80\x00", b"1/0=b;"),
+    (b"\x19\x25\x02\x04", b"1/32=[1,2,];"),
+    (b"\x19\xf5\x01\x02", b"1/32=[1,];"),
+    (b"\x19\x05\x19\xf3\x00", b"1/0=[];2/0=[];"),
+    (b"\x19\x31\x01\x00\x02", b"1/0=[T,F,F,];"),
+    (b"\x19\x22\x02\x01", b"1/0=[F,T,];"),
+    (b"\x19\x18\x01a", b"1/0=[b61,];"),
+    (b"\x19\x19\x13\xff", b"1/0=[[-1,],];"),
+    (b"\x1a\x13\x07", b"1/8={7,};"),
+    (b"\x1b\x00", b"1/0=<>;"),
+    (b"\x1b\x02\x51\x02\x01\x04\x02", b"1/0=<1:T,2:F,>;"),
+    (b"\x1c\x15\x02\x00", b"1/0=(1/32=1;);"),
+    (b"\x19\x2c\x11\x00\x00", b"1/0=[(1/0=T;),(),];"),
+    (
+        b"\x01\xfe\xff\x03\x01\xff\xff\x03",
+        b"32767/0=T;-32768/0=T;",
+    ),
     (
         b"\x25\x02\x05\x02\x04\x05\x01\x06\x15\x08",
-        "2/32=1;1/32=2;-1/32=3;0/32=4;",
+        b"2/32=1;1/32=2;-1/32=3;0/32=4;",
     ),
     (
         b"\x15\x00\x15\x16\x15\x16\x2c\x15\x04\x15\x00\x15\x06\x15\x06\x00",
-        "1/32=0;2/32=11;3/32=11;5/0=(1/32=2;2/32=0;3/32=3;4/32=3;);",
+        b"1/32=0;2/32=11;3/32=11;5/0=(1/32=2;2/32=0;3/32=3;4/32=3;);",
     ),
 ];
 
@@ -171,15 +175,15 @@ fn structs_are_read_and_cut_ones_are_not(rt: HostRuntime) -> Result<(), Fail> {
         bytes.push(0)?;
         for cut in 0..bytes.len() {
             let front = bytes.get(..cut).ok_or("no front")?;
-            assert_eq!(rt; place(alloc, front), Some(cut), "{shown} cut at {cut}");
+            assert_eq!(rt; place(alloc, front), Some(cut), "{fields:?} cut at {cut}");
         }
         let size = bytes.len();
         bytes.push(0xff)?;
         let (tree, taken) = read_struct(alloc, &bytes)?;
         let mut text = String::new(alloc);
         show_fields(tree.as_slice(), &mut text)?;
-        assert_eq!(rt; text.as_str(), shown);
-        assert_eq!(rt; taken, size, "{shown}");
+        assert_eq!(rt; text.as_bytes(), shown, "{fields:?}");
+        assert_eq!(rt; taken, size, "{fields:?}");
     }
     Ok(())
 }
@@ -242,53 +246,41 @@ fn varints_are_read(rt: HostRuntime) {
     assert_eq!(rt; read_varint(&[0x85, 0x80, 0x00], 0), Some((5, 3)));
 }
 
+fn whole(id: i16, whole: i32) -> Field
+    ensures { (left : ℕ) → IsField (IsWritableValue left) result }
+{
+    Field {
+        id,
+        width: 32,
+        node: Node::Whole(i64::from(whole)),
+    }
+}
+
+fn data_header(alloc: Global) -> Result<Tree, AllocError>
+    ensures { IfOk result (λ tree. AllByRecursion (IsField (IsWritableValue 62)) tree) }
+{
+    let fields = vec![in alloc; whole(1, 2), whole(2, 0), whole(3, 3), whole(4, 3)]?;
+    Ok(Items::from_vec(fields))
+}
+
+fn nested(id: i16, tree: Tree) -> Field
+    requires { AllByRecursion (IsField (IsWritableValue 62)) tree }
+    ensures { IsField (IsWritableValue 63) result }
+{
+    Field {
+        id,
+        width: 0,
+        node: Node::Struct(tree),
+    }
+}
+
 /// A page header of a data page.
 fn page_header(alloc: Global) -> Result<Tree, AllocError>
     ensures { IfOk result (λ tree. IsWritable tree) }
 {
-    let mut data = Items::new(alloc);
-    data.push(Field {
-        id: 1,
-        width: 32,
-        node: Node::Whole(2),
-    })?;
-    data.push(Field {
-        id: 2,
-        width: 32,
-        node: Node::Whole(0),
-    })?;
-    data.push(Field {
-        id: 3,
-        width: 32,
-        node: Node::Whole(3),
-    })?;
-    data.push(Field {
-        id: 4,
-        width: 32,
-        node: Node::Whole(3),
-    })?;
-    let mut header = Items::new(alloc);
-    header.push(Field {
-        id: 1,
-        width: 32,
-        node: Node::Whole(0),
-    })?;
-    header.push(Field {
-        id: 2,
-        width: 32,
-        node: Node::Whole(11),
-    })?;
-    header.push(Field {
-        id: 3,
-        width: 32,
-        node: Node::Whole(11),
-    })?;
-    header.push(Field {
-        id: 5,
-        width: 0,
-        node: Node::Struct(data),
-    })?;
-    Ok(header)
+    let data = nested(5, data_header(alloc)?);
+    let fields = vec![in alloc; whole(1, 0), whole(2, 11), whole(3, 11), data]?;
+    Ok(Items::from_vec(fields))
 }
 
 #[test]
