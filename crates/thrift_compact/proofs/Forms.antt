@@ -1,10 +1,10 @@
 -- A reader of a form, and one law for each way to put forms together.
-use Rattle.std.proofs.Common.{◌≡◌, ℕ, zero, suc, ◌+◌, ◌-◌, ◌<◌, ◌≤◌, ltb, Bool, true, false, List, [], ◌∷◌, ◌++◌, length, take, drop, Option, Some, None, Result, Ok, Err, refl, sym, ap, subst, ◌∙◌, arith, append_assoc, length-append, replicate, length-take}
-use Rattle.std.proofs.lemmas.Bool.{ltb-true, lt-ltb, ltb-false, le-ltb}
+use Rattle.std.proofs.Common.{◌≡◌, ℕ, zero, suc, ◌+◌, ◌-◌, ◌<◌, ◌≤◌, ltb, Bool, true, false, List, [], ◌∷◌, ◌++◌, length, take, drop, Option, Some, Ok, Err, refl, sym, ap, ◌∙◌, arith, append_assoc, length-append, replicate, length-take}
+use Rattle.std.proofs.lemmas.Bool.{ltb-true, ltb-false, le-ltb}
 use Rattle.std.proofs.lemmas.List.{append-nil, take-append-drop, length-replicate}
 use Rattle.std.proofs.Math.Seq.{take-append_seam, drop-append_seam}
-use Rattle.thrift_compact.specs.Grammar.{Form, Nothing, Made, Then, Each, Times, IsBytes}
-use Rattle.thrift_compact.specs.Reading.{Outcome, Reader, ◌>>=◌, made, accepted, one, exactly, times}
+use Rattle.thrift_compact.specs.Grammar.{Form, Nothing, Made, Then, Times, IsBytes}
+use Rattle.thrift_compact.specs.Reading.{Outcome, Reader, ◌>>=◌, made, one, exactly, times}
 use Rattle.thrift_compact.proofs.Steps.{accepted_ok, accepted_err}
 
 -- The bytes before rest can go on to a value, and nothing goes on with the first byte of rest.

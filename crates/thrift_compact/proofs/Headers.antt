@@ -1,6 +1,5 @@
 -- The bytes that begin fields, lists, sets and the entries of maps are read as they are spelled.
-use Rattle.std.proofs.Common.{◌≡◌, ◌⊎◌, inl, inr, ℕ, zero, suc, ◌+◌, ◌*◌, ◌/◌, ◌%◌, ◌^◌, ◌<◌, ◌≤◌, eqb, ltb, Bool, true, false, cond, List, [], ◌∷◌, ◌++◌, Option, Some, None, Result, Ok, Err, refl, sym, ap, subst, ◌∙◌, arith, ℤ, pos, ◌+ℤ◌, ◌≤ℤ◌}
-use Rattle.std.specs.Prelude.{if◌then◌else◌}
+use Rattle.std.proofs.Common.{◌≡◌, inl, inr, ℕ, ◌+◌, ◌*◌, ◌/◌, ◌%◌, ◌^◌, ◌<◌, eqb, ltb, Bool, true, false, cond, List, [], ◌∷◌, ◌++◌, Option, Some, None, refl, sym, ap, subst, ◌∙◌, arith, ℤ, pos, ◌+ℤ◌, ◌≤ℤ◌}
 use Rattle.std.specs.Int.Signed.{lt_z}
 use Rattle.std.proofs.lemmas.Int.{ints}
 use Rattle.std.proofs.lemmas.Bool.{eqb-true, eqb-false, eq-eqb, ltb-true, lt-ltb}
@@ -8,8 +7,8 @@ use Rattle.std.proofs.lemmas.List.{append-nil}
 use Rattle.std.proofs.lemmas.Nat.{pow_pos}
 use Rattle.thrift_compact.specs.Kinds.{kind_of, code_of, may_stand}
 use Rattle.thrift_compact.specs.Values.{allowed, id_after, start_with_id, start_by_kind, field_start, size_width, list_by_kind, list_start, entry_by_kinds, entry_kinds}
-use Rattle.thrift_compact.specs.Grammar.{Form, Nothing, Made, Then, IsWhole, IsVarint, IsShortField, IsLongField, IsFieldHeader, IsShortList, IsLongList, IsListHeader, MayHold, IsEntryKinds}
-use Rattle.thrift_compact.specs.Reading.{Outcome, Reader, ◌>>=◌, made, one, whole, varint, header_id, field_header, list_size, list_header}
+use Rattle.thrift_compact.specs.Grammar.{Form, Nothing, Made, Then, IsWhole, IsVarint, IsFieldHeader, IsListHeader, MayHold, IsEntryKinds}
+use Rattle.thrift_compact.specs.Reading.{one, whole, varint, header_id, field_header, list_size, list_header}
 use Rattle.thrift_compact.specs.declared.kind.Kind.{Kind}
 use Rattle.thrift_compact.specs.declared.kind.Kind.TheVariants as kind
 use Rattle.thrift_compact.specs.declared.header.FieldStart.{FieldStart}

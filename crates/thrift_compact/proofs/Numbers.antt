@@ -1,12 +1,12 @@
 -- Varints and whole numbers are read as they are spelled.
-use Rattle.std.proofs.Common.{◌≡◌, ℕ, zero, suc, ◌+◌, ◌-◌, ◌*◌, ◌/◌, ◌%◌, ◌^◌, ◌<◌, ◌≤◌, ltb, Bool, true, false, List, [], ◌∷◌, ◌++◌, length, Option, Some, None, Result, Ok, Err, refl, sym, ap, subst, ◌∙◌, arith, ℤ, pos, pow-add}
-use Rattle.std.specs.Prelude.{negsuc, if◌then◌else◌, ◌==◌}
+use Rattle.std.proofs.Common.{◌≡◌, ℕ, zero, suc, ◌+◌, ◌-◌, ◌*◌, ◌%◌, ◌^◌, ◌<◌, ◌≤◌, ltb, Bool, true, false, List, [], ◌∷◌, ◌++◌, length, Option, Some, None, Ok, refl, sym, ap, subst, ◌∙◌, arith, ℤ, pos, pow-add}
+use Rattle.std.specs.Prelude.{negsuc, if◌then◌else◌}
 use Rattle.std.proofs.Math.Pow.{pow_mono}
 use Rattle.std.proofs.lemmas.Nat.{pow_pos}
 use Rattle.std.proofs.lemmas.Bool.{ltb-true, lt-ltb, ltb-false, le-ltb}
 use Rattle.thrift_compact.specs.Grammar.{Form, Nothing, Made, Then, IsUleb, IsVarint, zigzag, IsWhole}
 use Rattle.thrift_compact.specs.Values.{varint_byte}
-use Rattle.thrift_compact.specs.Reading.{Outcome, Reader, ◌>>=◌, made, one, varint_of, varint_on, varint, unzigzag, whole}
+use Rattle.thrift_compact.specs.Reading.{made, one, varint_of, varint_on, varint, unzigzag, whole}
 use Rattle.thrift_compact.specs.declared.header.VarintByte.{VarintByte}
 use Rattle.thrift_compact.proofs.VarintLoop.{low_and_high}
 use Rattle.thrift_compact.proofs.Forms.{Reads, same_reads, made_reads, nothing_reads, then_reads, byte_reads, ByteOf}

@@ -1,6 +1,6 @@
 -- Equations of the readers' combinators.
-use Rattle.std.proofs.Common.{◌≡◌, ℕ, zero, suc, ◌+◌, ◌-◌, ◌*◌, ◌^◌, ◌<◌, ◌≤◌, ◌%◌, Bool, true, false, List, [], ◌∷◌, ◌++◌, length, Option, Some, None, Result, Ok, Err, refl, sym, ap, ◌∙◌, arith, append_assoc}
-use Rattle.thrift_compact.specs.Reading.{Outcome, Reader, ◌>>=◌, made, accepted, one}
+use Rattle.std.proofs.Common.{◌≡◌, ℕ, List, [], ◌∷◌, Option, Some, None, Ok, Err, refl, sym, ap}
+use Rattle.thrift_compact.specs.Reading.{Outcome, made, accepted, one}
 
 -- two ways to make the value
 pub made-ext : {A B : Type 0} (f g : A → B) → ((x : A) → f x ≡ g x) → (o : Outcome A) → made f o ≡ made g o

@@ -1,16 +1,16 @@
 -- The laws of the struct at the front of bytes.
-use Rattle.std.proofs.Common.{◌≡◌, ℕ, ◌+◌, ◌-◌, ◌<◌, ◌≤◌, List, [], ◌∷◌, ◌++◌, length, take, drop, append_assoc, ◌⊎◌, inl, inr, Result, Ok, Err, refl, sym, ap, subst, ◌∙◌, arith, pos, length-append}
+use Rattle.std.proofs.Common.{◌≡◌, ℕ, ◌+◌, ◌-◌, ◌<◌, ◌≤◌, List, ◌++◌, length, take, drop, append_assoc, ◌⊎◌, inl, inr, Result, Ok, Err, refl, sym, ap, subst, ◌∙◌, arith, pos, length-append}
 use Rattle.std.specs.Prelude.{IfOk}
 use Rattle.std.proofs.lemmas.Bool.{cases_order}
 use Rattle.std.proofs.Math.Seq.{take-add}
-use Rattle.thrift_compact.specs.Grammar.{IsValue, IsField, IsStruct}
-use Rattle.thrift_compact.specs.Reading.{Outcome, Reader, value, struct_fields, placed, read}
+use Rattle.thrift_compact.specs.Grammar.{IsValue, IsStruct}
+use Rattle.thrift_compact.specs.Reading.{Outcome, value, struct_fields, placed, read}
 use Rattle.thrift_compact.specs.Gives.{Reads as Found}
 use Rattle.thrift_compact.specs.Places.{IsFront, IsPlace, IsRead}
 use Rattle.thrift_compact.specs.declared.tree.Field.{Field}
 use Rattle.thrift_compact.specs.declared.fault.ThriftFault.{ThriftFault}
 use Rattle.thrift_compact.specs.declared.fault.ThriftFault.TheVariants as fault
-use Rattle.thrift_compact.proofs.Forms.{Reads, Stops}
+use Rattle.thrift_compact.proofs.Forms.{Reads}
 use Rattle.thrift_compact.proofs.Fronts.{rest_within, front_is, is_front, one_value, place_within, place_goes_on, place_ends}
 use Rattle.thrift_compact.proofs.ValueLaws.{value_reads, struct_reads}
 

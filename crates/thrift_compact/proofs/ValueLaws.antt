@@ -1,17 +1,15 @@
 -- Values of every type are read as they are spelled.
-use Rattle.std.proofs.Common.{◌≡◌, ◌⊎◌, inl, inr, ℕ, zero, suc, ◌+◌, ◌*◌, ◌/◌, ◌%◌, ◌<◌, ◌≤◌, eqb, ltb, Bool, true, false, cond, List, [], ◌∷◌, ◌++◌, length, Option, Some, None, Result, Ok, Err, refl, sym, ap, subst, ◌∙◌, arith, ℤ, pos}
+use Rattle.std.proofs.Common.{◌≡◌, inl, inr, ℕ, zero, suc, ◌+◌, ◌*◌, ◌<◌, eqb, ltb, Bool, true, false, cond, List, [], ◌∷◌, ◌++◌, Option, Some, None, refl, sym, ap, subst, ◌∙◌, arith, ℤ, pos}
 use Rattle.std.specs.Int.{cast_signed, w8}
-use Rattle.std.proofs.lemmas.Bool.{eqb-true, eqb-false, eq-eqb, ltb-true}
+use Rattle.std.proofs.lemmas.Bool.{eqb-true, ltb-true}
 use Rattle.thrift_compact.specs.Kinds.{code_of, may_stand, is_container}
-use Rattle.thrift_compact.specs.Values.{plain, sized, list_width, field_of, id_of, truth_of, entry_kinds}
+use Rattle.thrift_compact.specs.Values.{plain, sized, list_width, field_of, truth_of, entry_kinds}
 use Rattle.thrift_compact.specs.Grammar as g
 use Rattle.thrift_compact.specs.Grammar.{Form, Nothing, Made, Then, Times}
 use Rattle.thrift_compact.specs.Reading as r
 use Rattle.thrift_compact.specs.Reading.{Outcome, Reader, ◌>>=◌, made, one, times}
 use Rattle.thrift_compact.specs.declared.kind.Kind.{Kind}
 use Rattle.thrift_compact.specs.declared.kind.Kind.TheVariants as kind
-use Rattle.thrift_compact.specs.declared.header.FieldHeader.{FieldHeader}
-use Rattle.thrift_compact.specs.declared.header.ListHeader.{ListHeader}
 use Rattle.thrift_compact.specs.declared.header.EntryKinds.{EntryKinds}
 use Rattle.thrift_compact.specs.declared.value.Value.{Value}
 use Rattle.thrift_compact.specs.declared.tree.Node.{Node}
@@ -19,7 +17,7 @@ use Rattle.thrift_compact.specs.declared.tree.Node.TheVariants as n
 use Rattle.thrift_compact.specs.declared.tree.Field.{Field}
 use Rattle.thrift_compact.proofs.Forms.{Reads, same_reads, made_reads, nothing_reads, then_reads, byte_reads, bytes_reads, times_reads, ByteOf}
 use Rattle.thrift_compact.proofs.Numbers.{varint_reads, whole_reads}
-use Rattle.thrift_compact.proofs.KindLaws.{IsCode, code_range}
+use Rattle.thrift_compact.proofs.KindLaws.{code_range}
 use Rattle.thrift_compact.proofs.Headers.{field_header_reads, list_header_reads, entry_kinds_reads}
 use Rattle.thrift_compact.proofs.FieldLaws.{Starts, fields_read}
 

@@ -1,5 +1,5 @@
 -- The laws of the varint at the front of bytes.
-use Rattle.std.proofs.Common.{◌≡◌, ℕ, ◌+◌, ◌-◌, ◌<◌, ◌≤◌, List, [], ◌∷◌, ◌++◌, length, take, drop, Option, Some, None, Result, Ok, Err, refl, sym, ap, subst, ◌∙◌, arith, length-append, length-drop, min}
+use Rattle.std.proofs.Common.{◌≡◌, ℕ, ◌-◌, ◌≤◌, List, ◌++◌, length, take, drop, Some, None, Ok, Err, refl, sym, ap, ◌∙◌, arith, length-drop, min}
 use Rattle.std.proofs.Math.Seq.{take-length}
 use Rattle.std.proofs.lemmas.List.{drop_min}
 use Rattle.std.specs.Prelude.{IfSome}
@@ -9,7 +9,6 @@ use Rattle.thrift_compact.specs.Places.{IsFrontVarint}
 use Rattle.thrift_compact.specs.Gives.{Finds}
 use Rattle.thrift_compact.specs.declared.fault.Fault.{Fault}
 use Rattle.thrift_compact.specs.declared.fault.Fault.TheVariants.{Memory, Refused}
-use Rattle.thrift_compact.proofs.Forms.{Reads}
 use Rattle.thrift_compact.proofs.Fronts.{rest_within, front_is, is_front}
 use Rattle.thrift_compact.proofs.Numbers.{varint_reads}
 

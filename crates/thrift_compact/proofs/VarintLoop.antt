@@ -1,11 +1,10 @@
 -- The loop over the bytes of a varint.
-use Rattle.std.proofs.Common.{◌≡◌, ℕ, zero, suc, ◌+◌, ◌-◌, ◌*◌, ◌^◌, ◌<◌, ◌≤◌, ◌%◌, ltb, Bool, true, false, not, List, [], ◌∷◌, ◌++◌, length, Option, Some, None, Result, Ok, Err, refl, sym, ap, subst, ◌∙◌, arith, pow-add}
+use Rattle.std.proofs.Common.{◌≡◌, ℕ, suc, ◌+◌, ◌-◌, ◌*◌, ◌^◌, ◌<◌, ◌≤◌, ◌%◌, ltb, Bool, true, false, List, Option, Some, None, Ok, Err, refl, sym, ap, ◌∙◌, arith, pow-add}
 use Rattle.std.proofs.Math.Pow.{pow_mono}
-use Rattle.std.proofs.Math.Nat.{mod-eq_of_lt, mul-le-mul_left}
-use Rattle.std.proofs.lemmas.Nat.{pow_pos}
-use Rattle.std.proofs.lemmas.Bool.{ltb-true, lt-ltb, ltb-false, le-ltb}
+use Rattle.std.proofs.Math.Nat.{mod-eq_of_lt}
+use Rattle.std.proofs.lemmas.Bool.{ltb-true, ltb-false}
 use Rattle.thrift_compact.specs.Values.{varint_byte}
-use Rattle.thrift_compact.specs.Reading.{Outcome, Reader, ◌>>=◌, made, one, varint_of, varint_on}
+use Rattle.thrift_compact.specs.Reading.{Outcome, ◌>>=◌, made, one, varint_of, varint_on}
 use Rattle.thrift_compact.specs.Gives.{Finds}
 use Rattle.thrift_compact.specs.declared.fault.Fault.{Fault}
 use Rattle.thrift_compact.specs.declared.fault.Fault.TheVariants.{Memory, Refused}

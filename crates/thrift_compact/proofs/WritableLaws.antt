@@ -1,16 +1,13 @@
 -- Which values are writable, one by one.
-use Rattle.std.proofs.Common.{◌≡◌, ◌⊎◌, inl, inr, ℕ, zero, suc, ◌+◌, Bool, true, false, List, length, refl, sym, ap, subst, ◌∙◌, arith, ℤ, pos}
-use Rattle.std.specs.Prelude.{FitsSigned}
+use Rattle.std.proofs.Common.{◌≡◌, ℕ, zero, suc, ◌+◌, Bool, List, refl, sym, ap, subst, arith, ℤ}
 use Rattle.std.specs.List.{AllByRecursion}
-use Rattle.std.specs.Int.{w8, w16, w32, w64}
 use Rattle.thrift_compact.specs.Written as w
 use Rattle.thrift_compact.specs.Writable.{IsWholeOf, IsPlain, IsNoList, IsElement, AreElements, IsField, IsLevel, IsWritableValue}
-use Rattle.thrift_compact.specs.declared.kind.Kind.{Kind}
 use Rattle.thrift_compact.specs.declared.kind.Kind.TheVariants as kind
-use Rattle.thrift_compact.specs.declared.tree.Node.{Node, out-Node}
-use Rattle.thrift_compact.specs.declared.tree.Node.TheOpen.{Node-F, Field-F}
+use Rattle.thrift_compact.specs.declared.tree.Node.{Node}
+use Rattle.thrift_compact.specs.declared.tree.Node.TheOpen.{Node-F}
 use Rattle.thrift_compact.specs.declared.tree.Node.TheVariants as n
-use Rattle.thrift_compact.specs.declared.tree.Field.{Field, out-Field}
+use Rattle.thrift_compact.specs.declared.tree.Field.{Field}
 use Rattle.thrift_compact.proofs.WrittenLaws.{form_is}
 
 pub truth_writable : (left : ℕ) (b : Bool) → IsWritableValue left 0 (n.Bool b)

@@ -1,25 +1,23 @@
 -- What is written for a writable tree is spelled so.
-use Rattle.std.proofs.Common.{◌≡◌, ◌≢◌, ◌⊎◌, inl, inr, ℕ, zero, suc, ◌+◌, ◌-◌, ◌*◌, ◌^◌, ◌<◌, ◌≤◌, ltb, Bool, true, false, cond, List, [], ◌∷◌, ◌++◌, length, Option, Some, None, refl, sym, ap, subst, ◌∙◌, arith, ℤ, pos, ◌+ℤ◌, ◌-ℤ◌, ◌≤ℤ◌, length-append}
+use Rattle.std.proofs.Common.{◌≡◌, ◌⊎◌, inl, inr, ℕ, zero, suc, ◌+◌, ◌*◌, ◌^◌, ◌<◌, ◌≤◌, ltb, Bool, true, false, cond, List, [], ◌∷◌, ◌++◌, length, Option, Some, None, refl, sym, ap, subst, ◌∙◌, arith, ℤ, pos, ◌+ℤ◌, ◌-ℤ◌, ◌≤ℤ◌, length-append}
 use Rattle.std.specs.Prelude.{negsuc, map, FitsSigned}
 use Rattle.std.specs.List.{flat_map, AllByRecursion}
-use Rattle.std.specs.Int.{w8, w16, w32, w64}
+use Rattle.std.specs.Int.{w16}
 use Rattle.std.proofs.lemmas.Int.{ints}
 use Rattle.std.proofs.lemmas.List.Concat.{flat_map-cons}
 use Rattle.std.proofs.lemmas.List.{length-map, append-nil}
-use Rattle.std.proofs.lemmas.Bool.{ltb-true, lt-ltb, ltb-false, le-ltb, and_cases}
+use Rattle.std.proofs.lemmas.Bool.{ltb-true, lt-ltb}
 use Rattle.thrift_compact.specs.Kinds.{code_of, may_stand, is_container, width_of}
-use Rattle.thrift_compact.specs.Values.{plain, sized, list_width, field_of, id_of}
+use Rattle.thrift_compact.specs.Values.{id_of}
 use Rattle.thrift_compact.specs.Grammar as g
 use Rattle.thrift_compact.specs.Grammar.{Form, Nothing, Made, Then, Each, Times}
 use Rattle.thrift_compact.specs.Written as w
 use Rattle.thrift_compact.specs.Writable.{IsWholeOf, IsPlain, IsNoList, IsElement, AreElements, IsField, IsLevel, IsWritableValue, IsWritable}
 use Rattle.thrift_compact.specs.declared.kind.Kind.{Kind}
 use Rattle.thrift_compact.specs.declared.kind.Kind.TheVariants as kind
-use Rattle.thrift_compact.specs.declared.header.FieldHeader.{FieldHeader}
-use Rattle.thrift_compact.specs.declared.header.ListHeader.{ListHeader}
 use Rattle.thrift_compact.specs.declared.value.Value.{Value}
 use Rattle.thrift_compact.specs.declared.tree.Node.{Node, out-Node}
-use Rattle.thrift_compact.specs.declared.tree.Node.TheOpen.{Node-F, Field-F}
+use Rattle.thrift_compact.specs.declared.tree.Node.TheOpen.{Node-F}
 use Rattle.thrift_compact.specs.declared.tree.Node.TheViews.{roll-Node, roll-out-Node, roll-out-Field}
 use Rattle.thrift_compact.specs.declared.tree.Node.TheFolds.{fold_out-Node, fold_out-Field, map-Node}
 use Rattle.thrift_compact.specs.declared.tree.Node.TheVariants as n

@@ -1,11 +1,11 @@
 -- Written numbers are spelled so.
-use Rattle.std.proofs.Common.{◌≡◌, ◌⊎◌, inl, inr, ℕ, zero, suc, ◌+◌, ◌-◌, ◌*◌, ◌/◌, ◌%◌, ◌^◌, ◌<◌, ◌≤◌, ltb, Bool, true, false, cond, List, [], ◌∷◌, ◌++◌, length, refl, sym, ap, subst, ◌∙◌, arith, ℤ, pos, pow-add}
+use Rattle.std.proofs.Common.{◌≡◌, ℕ, zero, suc, ◌+◌, ◌-◌, ◌*◌, ◌/◌, ◌%◌, ◌^◌, ◌<◌, ◌≤◌, ltb, Bool, true, false, List, [], ◌∷◌, length, refl, sym, ap, ◌∙◌, arith, ℤ, pos, pow-add}
 use Rattle.std.specs.Prelude.{negsuc, FitsSigned}
 use Rattle.std.specs.Int.{cast_signed, cast_unsigned, w8, w16, w32, w64}
 use Rattle.std.proofs.Math.Pow.{pow_mono}
-use Rattle.std.proofs.lemmas.Bool.{ltb-true, lt-ltb, ltb-false, le-ltb}
+use Rattle.std.proofs.lemmas.Bool.{ltb-true, ltb-false, le-ltb}
 use Rattle.std.proofs.lemmas.Int.{to_z_pos}
-use Rattle.thrift_compact.specs.Grammar.{IsUleb, IsVarint, IsWhole, IsSignedByte, zigzag}
+use Rattle.thrift_compact.specs.Grammar.{IsUleb, IsVarint, IsSignedByte, zigzag}
 use Rattle.thrift_compact.specs.Written as w
 use Rattle.thrift_compact.proofs.Appending.{varint_last, varint_more}
 

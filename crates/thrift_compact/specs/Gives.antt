@@ -1,5 +1,5 @@
 -- What a function that reads ensures.
-use Rattle.std.specs.Prelude.{◌≡◌, ⊤, ℕ, List, Option, Some, None, Result, Ok, Err}
+use Rattle.std.specs.Prelude.{◌≡◌, ⊤, ℕ, List, Result, Ok, Err}
 use Rattle.std.specs.Borrow.{Bor}
 use Rattle.thrift_compact.specs.Reading.{Outcome}
 use Rattle.thrift_compact.specs.declared.tree.Field.{Field}

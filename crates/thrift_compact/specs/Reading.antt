@@ -1,13 +1,11 @@
 -- Reading from the front of bytes, as functions on lists.
-use Rattle.std.specs.Prelude.{◌≡◌, ℕ, zero, suc, ℤ, pos, negsuc, ◌+◌, ◌-◌, ◌*◌, ◌/◌, ◌%◌, ◌^◌, ◌==◌, Bool, true, false, not, nat_lt, if◌then◌else◌, List, [], ◌∷◌, ◌++◌, length, slice_get, take, drop, Option, Some, None, Result, Ok, Err}
+use Rattle.std.specs.Prelude.{ℕ, zero, suc, ℤ, pos, negsuc, ◌+◌, ◌-◌, ◌*◌, ◌/◌, ◌%◌, ◌==◌, Bool, true, false, nat_lt, if◌then◌else◌, List, [], ◌∷◌, ◌++◌, length, slice_get, take, drop, Option, Some, None, Result, Ok, Err}
 use Rattle.std.specs.Option.{option_map_or}
 use Rattle.std.specs.Int.{cast_signed, w8}
 use Rattle.thrift_compact.specs.Values.{plain, sized, list_width, field_of, id_of, truth_of, field_start, size_width, list_start, entry_kinds, varint_byte}
 use Rattle.thrift_compact.specs.declared.kind.Kind.{Kind}
 use Rattle.thrift_compact.specs.declared.kind.Kind.TheVariants as kind
-use Rattle.thrift_compact.specs.declared.header.FieldStart.{FieldStart}
 use Rattle.thrift_compact.specs.declared.header.FieldHeader.{FieldHeader}
-use Rattle.thrift_compact.specs.declared.header.ListStart.{ListStart}
 use Rattle.thrift_compact.specs.declared.header.ListHeader.{ListHeader}
 use Rattle.thrift_compact.specs.declared.header.VarintByte.{VarintByte}
 use Rattle.thrift_compact.specs.declared.value.Value.{Value}

@@ -5,7 +5,7 @@ use Rattle.std.specs.List.{AllByRecursion}
 use Rattle.thrift_compact.specs.Written.{form_of}
 use Rattle.thrift_compact.specs.declared.kind.Kind.{Kind}
 use Rattle.thrift_compact.specs.declared.tree.Node.{Node, out-Node}
-use Rattle.thrift_compact.specs.declared.tree.Node.TheOpen.{Node-F, Field-F}
+use Rattle.thrift_compact.specs.declared.tree.Node.TheOpen.{Node-F}
 use Rattle.thrift_compact.specs.declared.tree.Field.{Field, out-Field}
 
 -- a whole number fits its width, which is 8, 16, 32 or 64 bits

@@ -1,4 +1,4 @@
-use Rattle.std.proofs.Common.{◌≡◌, ◌^◌, ◌<◌, ◌≤◌, ltb, arith, sym, ◌∙◌}
+use Rattle.std.proofs.Common.{◌^◌, ◌≤◌, arith, sym, ◌∙◌}
 use Rattle.std.proofs.Math.Pow.{pow_mono}
 use Rattle.std.proofs.lemmas.Bool.{lt-ltb, le-leb}
 use Rattle.thrift_compact.proofs.header.is_below.Goals as goal

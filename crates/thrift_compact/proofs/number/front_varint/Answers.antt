@@ -1,4 +1,4 @@
-use Rattle.std.proofs.Common.{◌≡◌, sym, arith}
+use Rattle.std.proofs.Common.{sym, arith}
 use Rattle.thrift_compact.proofs.VarintLaws.{varint_within, first_ok, no_fault}
 use Rattle.thrift_compact.proofs.number.front_varint.Goals as goal
 

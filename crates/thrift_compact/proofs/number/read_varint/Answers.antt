@@ -1,4 +1,4 @@
-use Rattle.std.proofs.Common.{◌≡◌, sym, ap, subst, ◌∙◌, drop}
+use Rattle.std.proofs.Common.{sym, ap, subst, ◌∙◌, drop}
 use Rattle.std.specs.Prelude.{IfSome}
 use Rattle.thrift_compact.specs.Reading.{first_varint}
 use Rattle.thrift_compact.specs.Places.{IsFrontVarint}

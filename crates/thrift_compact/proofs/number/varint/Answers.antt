@@ -1,6 +1,6 @@
-use Rattle.std.proofs.Common.{◌≡◌, ℕ, ◌+◌, ◌-◌, ◌*◌, ◌^◌, ◌<◌, ◌≤◌, ◌%◌, Bool, true, false, Err, Ok, refl, sym, ap, ◌∙◌, arith, rules}
-use Rattle.thrift_compact.specs.Reading.{made, varint_of}
-use Rattle.thrift_compact.proofs.VarintLoop.{fails, kept, sum_below, sum_fits, last, goes_on, still_fits}
+use Rattle.std.proofs.Common.{◌≡◌, ◌-◌, refl, ◌∙◌, arith, rules}
+use Rattle.thrift_compact.specs.Reading.{varint_of}
+use Rattle.thrift_compact.proofs.VarintLoop.{fails, sum_below, sum_fits, last, goes_on, still_fits}
 use Rattle.thrift_compact.proofs.number.varint.Goals as goal
 
 pub returns-in_err-byte-clause-number : goal.returns-in_err-byte-clause-number

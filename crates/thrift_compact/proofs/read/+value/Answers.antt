@@ -1,6 +1,4 @@
-use Rattle.std.proofs.Common.{◌≡◌, ◌∙◌, ℕ, sym, rules, arith, to_z, w16}
-use Rattle.thrift_compact.specs.Reading as spec
-use Rattle.thrift_compact.specs.Gives.{Gives}
+use Rattle.std.proofs.Common.{◌∙◌, sym, rules, arith}
 use Rattle.thrift_compact.proofs.Turns.{turn, fails, done, field_turn, field_shorter, field_fails, fields_done, value_none, value_some}
 use Rattle.thrift_compact.proofs.read.+value.Goals as goal
 

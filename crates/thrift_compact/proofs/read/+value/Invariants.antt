@@ -1,4 +1,4 @@
-use Rattle.std.proofs.Common.{◌≡◌, ℕ, pos, ◌+◌, ◌-◌, ◌*◌, length}
+use Rattle.std.proofs.Common.{◌≡◌, pos, ◌+◌, ◌-◌, ◌*◌, length}
 use Rattle.thrift_compact.specs.Reading as spec
 use Rattle.thrift_compact.proofs.read.+value.Given as goal
 

@@ -1,4 +1,4 @@
-use Rattle.std.proofs.Common.{◌≡◌, ◌≤◌, length, arith, sym, ◌∙◌, ap}
+use Rattle.std.proofs.Common.{arith}
 use Rattle.thrift_compact.proofs.StructLaws.{struct_within, fault_within, struct_placed, fault_placed}
 use Rattle.thrift_compact.proofs.read.read_front.Goals as goal
 

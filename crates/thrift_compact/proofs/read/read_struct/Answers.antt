@@ -1,4 +1,3 @@
-use Rattle.std.proofs.Common.{◌≡◌}
 use Rattle.thrift_compact.proofs.StructLaws.{call_found, call_only, call_place}
 use Rattle.thrift_compact.proofs.read.read_struct.Goals as goal
 

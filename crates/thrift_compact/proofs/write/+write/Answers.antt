@@ -1,4 +1,3 @@
-use Rattle.std.proofs.Common.{◌≡◌, ◌++◌, rules, arith}
 use Rattle.thrift_compact.proofs.Appending.{keeps_on}
 use Rattle.thrift_compact.proofs.WriteTurns.{field_turn}
 use Rattle.thrift_compact.proofs.write.+write.Goals as goal

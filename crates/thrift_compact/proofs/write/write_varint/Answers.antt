@@ -1,5 +1,3 @@
-use Rattle.std.proofs.Common.{◌≡◌, ◌++◌, rules, arith}
-use Rattle.thrift_compact.specs.Written as w
 use Rattle.thrift_compact.proofs.Appending.{keeps_on, ok_then, byte_more, byte_last}
 use Rattle.thrift_compact.proofs.write.write_varint.Goals as goal
 
