@@ -1,3 +1,7 @@
 pub mod Order
 pub mod Refusal
 pub mod Then
+pub mod Value
+pub mod Lanes
+pub mod LaneLaws
+pub mod Scaled

@@ -27,7 +27,23 @@ impl Exact for u64 {
     ghost exact = { λ x y same. same };
 }
 
+impl Exact for i8 {
+    ghost exact = { λ x y same. same };
+}
+
+impl Exact for i16 {
+    ghost exact = { λ x y same. same };
+}
+
+impl Exact for i32 {
+    ghost exact = { λ x y same. same };
+}
+
 impl Exact for i64 {
+    ghost exact = { λ x y same. same };
+}
+
+impl Exact for i128 {
     ghost exact = { λ x y same. same };
 }
 

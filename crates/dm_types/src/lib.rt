@@ -1,19 +1,29 @@
-//! The small types that every crate uses: texts and lists that contracts see as lists, and the
-//! refusals of a statement.
+//! The small types that every crate uses: texts and lists that contracts see as lists, values with
+//! their order and their lanes, and the refusals of a statement.
 #![tactic(auto)]
 
-mod compare;
+mod comparison;
+mod equality;
 mod exact;
 mod items;
+mod lane;
+mod lanes;
 mod order;
 mod refusal;
 mod text;
+mod value;
 
+pub use comparison::{compare, compare_decimals, same};
 pub use exact::Exact;
 pub use items::Items;
+pub use lane::Lane;
+pub use lanes::{
+    LaneBool, LaneByte, LaneBytes, LaneDecimal, LaneInt, LaneLong, LaneShort, LaneText,
+};
 pub use order::sort_texts;
 pub use refusal::{Refused, Stop, TableRefusal};
 pub use text::Text;
+pub use value::{DataType, Decimal, Value};
 
 /// Bytes, of a file or of a text.
 pub type Bytes = Items<u8>;
@@ -33,8 +43,17 @@ pub type PartitionValues = Items<(Text, Option<Text>)>;
 /// Counts, as the numbers of calls.
 pub type CountList = Items<u64>;
 
+/// Places in a list, counted from 0.
+pub type PlaceList = Items<usize>;
+
 /// Whole numbers.
 pub type WholeList = Items<i64>;
+
+/// The values of a row, in the order of the columns.
+pub type Row = Items<Value>;
+
+/// Rows.
+pub type Rows = Items<Row>;
 
 /// Drawn names of sixteen bytes.
 pub type NameList = Items<[u8; 16]>;

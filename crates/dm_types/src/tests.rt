@@ -1,4 +1,6 @@
 // Texts, their order, and how refusals are printed.
+mod values;
+
 use crate::{Bytes, Exact, Items, Refused, Stop, TableRefusal, Text, TextList, sort_texts};
 use std::alloc::{AllocError, Global};
 use std::collections::HashSet;

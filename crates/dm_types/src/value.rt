@@ -1,0 +1,85 @@
+// Types of columns, and the values in them.
+use crate::exact::Exact;
+use crate::{Bytes, Text};
+
+/// The type of a column (Delta's "Primitive Types"), or of an expression that is always null.
+#[derive(Clone, Copy, PartialEq, Eq, Debug)]
+pub enum DataType {
+    /// The type of NULL alone. No table has a column of it.
+    Void,
+    /// `boolean`: true or false.
+    Boolean,
+    /// `byte`: a whole number of 8 bits.
+    Byte,
+    /// `short`: a whole number of 16 bits.
+    Short,
+    /// `integer`: a whole number of 32 bits.
+    Integer,
+    /// `long`: a whole number of 64 bits.
+    Long,
+    /// `decimal(p,s)`: a number of at most `precision` digits, `scale` of them behind the point.
+    Decimal {
+        /// The greatest number of digits, from 1 to 38.
+        precision: u8,
+        /// The digits behind the point, from 0 to the precision.
+        scale: u8,
+    },
+    /// `string`: a text in UTF-8.
+    Str,
+    /// `binary`: bytes.
+    Binary,
+    /// `date`: a day.
+    Date,
+    /// `timestamp`: a moment, in microseconds.
+    Timestamp,
+}
+
+impl Exact for DataType {
+    ghost use Rattle.std.proofs.Common.{rules};
+
+    ghost exact = { Prim.search rules };
+}
+
+/// A decimal number: `unscaled` divided by ten to the power of `scale`.
+///
+/// One number has many of these, as 1.5 and 1.50: `compare` tells numbers apart, and not these.
+#[derive(Clone, Copy, Debug)]
+pub struct Decimal {
+    /// The number without its point.
+    pub unscaled: i128,
+    /// How many of its digits stand behind the point.
+    pub scale: u8,
+}
+
+impl Exact for Decimal {
+    ghost use Rattle.std.proofs.Common.{rules};
+
+    ghost exact = { Prim.search rules };
+}
+
+/// A value of a row.
+#[derive(Clone, Debug, Drop)]
+pub enum Value {
+    /// No value.
+    Null,
+    /// A truth value.
+    Bool(bool),
+    /// A whole number, of a column of 8, 16, 32 or 64 bits.
+    Int(i64),
+    /// A decimal number.
+    Dec(Decimal),
+    /// A text.
+    Text(Text),
+    /// Bytes.
+    Bytes(Bytes),
+    /// A day, counted from 1970-01-01.
+    Day(i32),
+    /// A moment, in microseconds from 1970-01-01 00:00 UTC.
+    Micros(i64),
+}
+
+impl Exact for Value {
+    ghost use Rattle.std.proofs.Common.{rules};
+
+    ghost exact = { Prim.search rules };
+}
