@@ -6,7 +6,7 @@ ghost use Rattle.dm_types.specs.Lanes.{IsOf, IsNullOrOf};
 ghost use Rattle.dm_types.specs.declared.value.Value.TheVariants.{Null};
 
 use crate::selection::Selection;
-use dm_types::{DataType, Lane, PlaceList, Row, Value};
+use dm_types::{DataType, Exact, Lane, PlaceList, Row, Value};
 use std::alloc::{AllocError, Global};
 use std::marker::Model;
 
@@ -197,4 +197,20 @@ impl<T: Lane> Column<T> {
         column.append(other)?;
         Ok(column)
     }
+}
+
+impl<T: Lane> Clone for Column<T> {
+    ghost is_clone = { λ x y. y ≡ x };
+
+    fn clone(&self) -> Result<Column<T>, AllocError> {
+        Ok(Column {
+            kind: self.kind,
+            valid: self.valid.clone()?,
+            kept: self.kept.clone()?,
+        })
+    }
+}
+
+impl<T: Lane> Exact for Column<T> {
+    ghost exact = { λ x y same. same };
 }

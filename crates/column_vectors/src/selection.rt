@@ -3,6 +3,7 @@ ghost use Rattle.std.specs.Prelude.{◌≡◌, ◌<◌, ◌++◌, ◌∷◌, ◌
 ghost use Rattle.column_vectors.specs.Flags.{count_of};
 
 use crate::block::{Block, push_flag};
+use dm_types::Exact;
 use std::alloc::{AllocError, Global};
 use std::marker::Model;
 
@@ -89,4 +90,22 @@ impl Selection {
         self.rows = rows;
         Ok(())
     }
+}
+
+impl Clone for Selection {
+    ghost use Rattle.std.specs.Prelude.{◌≡◌};
+
+    ghost is_clone = { λ x y. y ≡ x };
+
+    fn clone(&self) -> Result<Selection, AllocError> {
+        Ok(Selection {
+            blocks: self.blocks.clone()?,
+            rows: self.rows,
+            count: self.count,
+        })
+    }
+}
+
+impl Exact for Selection {
+    ghost exact = { λ x y same. same };
 }
