@@ -9,7 +9,7 @@ use Rattle.std.proofs.lemmas.Nat.Bits.{bit_at-lt, shr_and_one}
 use Rattle.std.specs.Int.{bit_at}
 use Rattle.std.specs.Int.Count.{ones}
 use Rattle.column_vectors.proofs.Counts.{count_of-append}
-use Rattle.column_vectors.proofs.Tested.{flags_of-more, flags_of-same, flags_of-none, length-flags_of, take-flags_of, slice_get-flags_of}
+use Rattle.column_vectors.proofs.Tested.{flags_of-more, flags_of-same, flags_of-none, take-flags_of, slice_get-flags_of}
 use Rattle.column_vectors.specs.Blocks.{empty_block, block_at, flag_at, flag_number, IsSelection, AddsFlag}
 use Rattle.column_vectors.specs.Flags.{count_of, flags_of}
 use Rattle.column_vectors.specs.declared.block.Block.{Block}

@@ -1,5 +1,5 @@
 -- Counts of flags.
-use Rattle.std.proofs.Common.{◌≡◌, ℕ, zero, suc, ◌+◌, ◌<◌, ◌≤◌, List, [], ◌∷◌, ◌++◌, length, take, slice_get, Bool, true, false, Some, refl, ap, arith}
+use Rattle.std.proofs.Common.{◌≡◌, ℕ, zero, suc, ◌+◌, ◌<◌, ◌≤◌, List, [], ◌∷◌, ◌++◌, length, take, slice_get, Bool, true, false, Some, arith}
 use Rattle.column_vectors.specs.Flags.{count_of}
 
 pub count_of-append : (xs ys : List Bool) → count_of (xs ++ ys) ≡ count_of xs + count_of ys

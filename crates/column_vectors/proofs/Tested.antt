@@ -1,10 +1,10 @@
 -- Flags by a test of a row's place.
-use Rattle.std.proofs.Common.{◌≡◌, ℕ, zero, suc, ◌+◌, ◌<◌, ◌≤◌, List, [], ◌∷◌, ◌++◌, length, take, slice_get, get_or, inl, inr, Bool, true, false, Some, refl, sym, ap, ◌∙◌, subst, arith, length-append, add-one}
+use Rattle.std.proofs.Common.{◌≡◌, ℕ, zero, suc, ◌+◌, ◌<◌, ◌≤◌, List, [], ◌∷◌, ◌++◌, length, take, slice_get, get_or, inl, inr, Bool, false, Some, refl, sym, ap, ◌∙◌, arith, length-append, add-one}
 use Rattle.std.proofs.Math.ListN.{get_or-append}
 use Rattle.std.proofs.Math.Nat.{le_of_suc-le-suc, eq-or-lt_of_le}
 use Rattle.std.proofs.lemmas.List.{take-append-le, take_all, get_or_push}
 use Rattle.std.proofs.lemmas.Option.{slice_get-get_or}
-use Rattle.column_vectors.proofs.Counts.{count_of-append, count_of-le}
+use Rattle.column_vectors.proofs.Counts.{count_of-le}
 use Rattle.column_vectors.specs.Flags.{count_of, flags_of}
 
 pub length-flags_of : (n : ℕ) (f : ℕ → Bool) → length (flags_of n f) ≡ n

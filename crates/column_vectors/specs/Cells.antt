@@ -1,5 +1,5 @@
 -- What a column is: a type, and a value for each row.
-use Rattle.std.specs.Prelude.{◌≡◌, ℕ, ◌+◌, List, [], ◌∷◌, length, map, All, slice_index_or, Bool, true, false, Option, Some, None}
+use Rattle.std.specs.Prelude.{◌≡◌, ℕ, List, [], ◌∷◌, length, map, All, slice_index_or, Bool, true, false, Option, Some, None}
 use Rattle.column_vectors.specs.Flags.{count_of}
 use Rattle.dm_types.specs.Lanes.{IsNullOrOf}
 use Rattle.dm_types.specs.declared.value.DataType.{DataType}

@@ -1,12 +1,11 @@
 // Columns of each lane, and how long a gather takes.
-ghost use Rattle.std.specs.Prelude.{◌≡◌, ◌∷◌, [], IfOk, length};
+ghost use Rattle.std.specs.Prelude.{◌≡◌, ◌<◌, ◌∷◌, [], All, IfOk, length};
 ghost use Rattle.dm_types.specs.Lanes.{IsNullOrOf};
 ghost use Rattle.dm_types.specs.declared.value.Value.TheVariants.{Null};
 
 use crate::{AnyColumn, Batch, Column, LaneColumn, Selection};
-use dm_types::{Bytes, DataType, Decimal, Exact, LaneLong, PlaceList, Row, Text, Value, same};
+use dm_types::{DataType, Decimal, LaneLong, PlaceList, Row, Text, Value, same};
 use std::alloc::{AllocError, Global};
-use std::process::Abort;
 use std::test::Fail;
 use std::time::Instant;
 
@@ -28,6 +27,12 @@ fn column_of(
     AnyColumn::from_values(alloc, &kind, &values)
 }
 
+fn decimal(unscaled: i128, scale: u8) -> Value
+    ensures { result ≡ Value.Dec (record { unscaled = unscaled; scale = scale }) }
+{
+    Value::Dec(Decimal { unscaled, scale })
+}
+
 fn places(alloc: Global, first: usize, second: usize) -> Result<PlaceList, AllocError>
     ensures { IfOk result (λ places. places ≡ first ∷ second ∷ []) }
 {
@@ -37,26 +42,132 @@ fn places(alloc: Global, first: usize, second: usize) -> Result<PlaceList, Alloc
     Ok(places)
 }
 
-// The rows are turned, and stand behind the column itself.
-fn turned_behind(
-    rt: &impl Abort,
-    alloc: Global,
-    column: &AnyColumn,
-    first: &Value,
-    last: &Value,
-) -> Result<(), AllocError>
-    requires { length column.now.values ≡ 3 }
+// Whether a column has these values.
+fn holds(column: &AnyColumn, values: &Row) -> Result<bool, AllocError> {
+    for row in 0..column.len() {
+        if row >= values.len() || !same(&column.get(row)?, values.get(row)) {
+            return Ok(false);
+        }
+    }
+    Ok(column.len() == values.len())
+}
+
+// Whether a column of two values and null is kept, with two of its rows behind it.
+fn keeps(alloc: Global, kind: DataType, first: Value, last: Value) -> Result<bool, AllocError>
+    requires first { IsNullOrOf kind first }
+    requires last { IsNullOrOf kind last }
 {
+    let column = column_of(alloc, kind, first.clone()?, last.clone()?)?;
     let turned = column.gather(alloc, &places(alloc, 2, 1)?)?;
     let whole = column.concat(alloc, &turned)?;
-    assert!(rt; whole.len() == 5 && whole.kind() == column.kind());
-    assert!(rt; same(&whole.get(0)?, first) && same(&whole.get(2)?, last));
-    assert!(rt; same(&whole.get(3)?, last) && whole.is_null(4) && !whole.is_null(3));
-    Ok(())
+    let mut expected = Row::new(alloc);
+    expected.push(first)?;
+    expected.push(Value::Null)?;
+    expected.push(last.clone()?)?;
+    expected.push(last)?;
+    expected.push(Value::Null)?;
+    holds(&whole, &expected)
 }
 
 #[test]
 fn columns_keep_values_of_their_types(rt: HostRuntime) -> Result<(), Fail> {
+    let price = DataType::Decimal {
+        precision: 4,
+        scale: 2,
+    };
+    let word = Value::Text(Text::from_str(rt.alloc(), "a")?);
+    assert!(rt; keeps(rt.alloc(), DataType::Void, Value::Null, Value::Null)?);
+    assert!(rt;
+        keeps(
+            rt.alloc(),
+            DataType::Byte,
+            Value::Int(-128),
+            Value::Int(127)
+        )?
+    );
+    assert!(rt; keeps(rt.alloc(), DataType::Date, Value::Day(-1), Value::Null)?);
+    assert!(rt; keeps(rt.alloc(), price, decimal(-9999, 2), decimal(150, 2))?);
+    assert!(rt; keeps(rt.alloc(), DataType::Str, Value::Null, word)?);
+    Ok(())
+}
+
+// A column of a number and null, again and again, of a million rows and more.
+fn long_column(alloc: Global) -> Result<Column<LaneLong>, AllocError> {
+    let mut column = Column::new(alloc, DataType::Long);
+    column.push(7)?;
+    column.push_null()?;
+    for _ in 0..19 {
+        column = column.concat(alloc, &column)?;
+    }
+    Ok(column)
+}
+
+// The places from the last one on.
+fn from_last(alloc: Global, rows: usize) -> Result<PlaceList, AllocError>
+    ensures { IfOk result (All (λ place. place < rows)) }
+{
+    let mut places = PlaceList::new(alloc);
+    for place in (0..rows).rev() {
+        places.push(place)?;
+    }
+    Ok(places)
+}
+
+// The rows at the places, gathered twice; the second time counts.
+fn gathered_twice(
+    alloc: Global,
+    column: &Column<LaneLong>,
+    places: &PlaceList,
+) -> Result<Column<LaneLong>, AllocError>
+    requires { All (λ place. place < length column.now.values) places.now }
+    ensures { IfOk result (λ gathered. length gathered.values ≡ length places.now) }
+{
+    column.gather(alloc, places)?;
+    column.gather(alloc, places)
+}
+
+#[test]
+fn a_million_values_are_gathered_in_a_second(rt: HostRuntime) -> Result<(), Fail> {
+    let column = long_column(rt.alloc())?;
+    let places = from_last(rt.alloc(), column.len())?;
+    let start = Instant::now(&rt)?;
+    let gathered = gathered_twice(rt.alloc(), &column, &places)?;
+    let time = start.elapsed(&rt)?;
+    assert!(rt; time.as_millis() < 1000);
+    assert!(rt; gathered.len() == 1048576);
+    assert!(rt; gathered.is_null(0));
+    Ok(())
+}
+
+#[test]
+fn selections_cross_their_blocks(rt: HostRuntime) -> Result<(), Fail> {
     let alloc = rt.alloc();
+    let mut selection = Selection::new(alloc);
+    for row in 0..130u32 {
+        selection.push(row % 3 == 0)?;
+    }
+    assert!(rt; selection.len() == 130 && selection.count() == 44);
+    assert!(rt; selection.test(63) && !selection.test(64) && selection.test(129));
+    assert!(rt; selection.count_before(64) == 22 && selection.count_before(129) == 43);
+    Ok(())
+}
+
+#[test]
+fn batches_take_columns_of_their_length(rt: HostRuntime) -> Result<(), Fail> {
+    let alloc = rt.alloc();
+    let mut column = Column::<LaneLong>::new(alloc, DataType::Long);
+    column.push(7)?;
+    column.push_null()?;
+    let mut batch = Batch::new(alloc, 2);
+    batch.push(AnyColumn::from_lane(LaneColumn::Long(column)))?;
+    let batch = batch.clone()?;
+    assert!(rt; batch.columns.len() == 1 && batch.rows == 2);
+    match batch.columns.get(0).lane() {
+        LaneColumn::Long(column) => {
+            assert!(rt; column.len() == 2);
+            assert!(rt; column.get(0).copied() == Some(7) && column.get(1).is_none());
+        }
+        _ => assert!(rt; false),
+    }
     Ok(())
 }

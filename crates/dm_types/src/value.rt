@@ -1,6 +1,7 @@
 // Types of columns, and the values in them.
 use crate::exact::Exact;
 use crate::{Bytes, Text};
+use std::alloc::AllocError;
 
 /// The type of a column (Delta's "Primitive Types"), or of an expression that is always null.
 #[derive(Clone, Copy, PartialEq, Eq, Debug)]
@@ -58,7 +59,7 @@ impl Exact for Decimal {
 }
 
 /// A value of a row.
-#[derive(Clone, Debug, Drop)]
+#[derive(Debug, Drop)]
 pub enum Value {
     /// No value.
     Null,
@@ -78,8 +79,25 @@ pub enum Value {
     Micros(i64),
 }
 
-impl Exact for Value {
-    ghost use Rattle.std.proofs.Common.{rules};
+impl Clone for Value {
+    ghost use Rattle.std.specs.Prelude.{◌≡◌};
 
-    ghost exact = { Prim.search rules };
+    ghost is_clone = { λ x y. y ≡ x };
+
+    fn clone(&self) -> Result<Value, AllocError> {
+        match self {
+            Value::Null => Ok(Value::Null),
+            Value::Bool(truth) => Ok(Value::Bool(*truth)),
+            Value::Int(number) => Ok(Value::Int(*number)),
+            Value::Dec(decimal) => Ok(Value::Dec(*decimal)),
+            Value::Text(text) => Ok(Value::Text(text.clone()?)),
+            Value::Bytes(bytes) => Ok(Value::Bytes(bytes.clone()?)),
+            Value::Day(day) => Ok(Value::Day(*day)),
+            Value::Micros(moment) => Ok(Value::Micros(*moment)),
+        }
+    }
+}
+
+impl Exact for Value {
+    ghost exact = { λ x y same. same };
 }

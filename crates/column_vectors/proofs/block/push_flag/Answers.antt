@@ -1,4 +1,4 @@
-use Rattle.std.proofs.Common.{◌∙◌, ℕ, List, ap, sym, subst, rules}
+use Rattle.std.proofs.Common.{◌∙◌, List, ap, sym, subst, rules}
 use Rattle.std.specs.Int.{bit_at}
 use Rattle.column_vectors.proofs.Bits.{block_pushed, block_set, last_read}
 use Rattle.column_vectors.proofs.block.push_flag.Goals as goal

@@ -1,4 +1,4 @@
-use Rattle.std.proofs.Common.{◌≡◌, ◌∙◌, ◌<◌, ap, sym, subst, arith, length, slice_get, Bool, true, false, Some}
+use Rattle.std.proofs.Common.{◌≡◌, ◌∙◌, ◌<◌, ap, sym, subst, arith, length, slice_get, true, Some}
 use Rattle.column_vectors.proofs.Counts.{count_of-before}
 use Rattle.column_vectors.proofs.Shown.{flags_long, shown-null, row_kept, row_typed}
 use Rattle.column_vectors.specs.Cells.{Cells}

@@ -1,4 +1,4 @@
-use Rattle.std.proofs.Common.{◌≡◌, ◌∙◌, ap, sym, subst, ◌++◌, ◌∷◌, [], List, Bool, true}
+use Rattle.std.proofs.Common.{◌≡◌, ◌∙◌, ap, sym, subst, ◌++◌, ◌∷◌, [], true}
 use Rattle.column_vectors.proofs.Shown.{shown-append_kept, IsColumn-append_kept}
 use Rattle.column_vectors.specs.Cells.{Cells}
 use Rattle.column_vectors.proofs.column.Column.push.Goals as goal

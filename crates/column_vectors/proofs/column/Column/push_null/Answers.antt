@@ -1,4 +1,4 @@
-use Rattle.std.proofs.Common.{◌≡◌, ◌∙◌, ap, ◌++◌, ◌∷◌, [], List, Bool, false}
+use Rattle.std.proofs.Common.{◌≡◌, ◌∙◌, ap, ◌++◌, ◌∷◌, [], false}
 use Rattle.column_vectors.proofs.Shown.{shown-append_null, IsColumn-append_null}
 use Rattle.column_vectors.specs.Cells.{Cells}
 use Rattle.column_vectors.proofs.column.Column.push_null.Goals as goal

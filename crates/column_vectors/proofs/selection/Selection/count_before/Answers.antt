@@ -1,4 +1,4 @@
-use Rattle.std.proofs.Common.{◌≡◌, ◌∙◌, ◌<◌, ◌≤◌, ap, sym, length, take, List, Bool, arith}
+use Rattle.std.proofs.Common.{◌≡◌, ◌∙◌, ◌<◌, ap, sym, length, take, List, Bool, arith}
 use Rattle.column_vectors.proofs.Bits.{row_counted}
 use Rattle.column_vectors.proofs.Tested.{length-flags_of, take-flags_of, count_of-flags_of-le}
 use Rattle.column_vectors.specs.Blocks.{flag_at}

@@ -1,4 +1,4 @@
-use Rattle.std.proofs.Common.{◌≡◌, ◌∙◌, ◌≤◌, ap, sym, length, arith}
+use Rattle.std.proofs.Common.{◌≤◌, arith}
 use Rattle.column_vectors.proofs.Tested.{count_of-flags_of-le}
 use Rattle.column_vectors.specs.Blocks.{flag_at}
 use Rattle.column_vectors.proofs.selection.Selection.push.Goals as goal

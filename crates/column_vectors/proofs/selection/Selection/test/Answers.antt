@@ -1,5 +1,5 @@
-use Rattle.std.proofs.Common.{◌≡◌, ◌∙◌, ◌<◌, ap, sym, subst, length, slice_get, List, Bool, Some, arith}
-use Rattle.column_vectors.proofs.Bits.{row_within, row_tested}
+use Rattle.std.proofs.Common.{◌≡◌, ◌∙◌, ap, sym, length, slice_get, List, Bool, arith}
+use Rattle.column_vectors.proofs.Bits.{row_tested}
 use Rattle.column_vectors.proofs.Tested.{length-flags_of}
 use Rattle.column_vectors.proofs.selection.Selection.test.Goals as goal
 
