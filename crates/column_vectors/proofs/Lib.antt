@@ -1,4 +1,4 @@
-pub mod Bits
-pub mod Counts
-pub mod Shown
-pub mod Tested
+mod Bits
+mod Counts
+mod Shown
+mod Tested

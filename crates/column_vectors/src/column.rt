@@ -1,5 +1,5 @@
 // A column of one lane.
-ghost use Rattle.std.specs.Prelude.{◌≡◌, ◌<◌, ◌++◌, ◌∷◌, ◌↔◌, [], length, take, All, slice_get, slice_index_or, Some, OnOk, OnErr, IfOk, IfSome, IsTrue};
+ghost use Rattle.std.specs.Prelude.{◌≡◌, ℕ, ◌<◌, ◌++◌, ◌∷◌, ◌↔◌, [], length, take, All, slice_get, slice_index_or, Some, OnOk, OnErr, IfOk, IfSome, IsTrue};
 ghost use Rattle.std.specs.Option.{option_copied};
 ghost use Rattle.column_vectors.specs.Cells.{gathered, value_or_null};
 ghost use Rattle.dm_types.specs.Lanes.{IsOf, IsNullOrOf};
@@ -125,6 +125,7 @@ impl<T: Lane> Column<T> {
         ensures ok { OnOk result (self.new.values ≡ self.old.values ++ value.now ∷ []) }
         ensures err { OnErr result (self.new.values ≡ self.old.values) }
     {
+        // The lane serves the column's type.
         let _ = &self.kind;
         match T::from_value(value)? {
             Some(kept) => self.push(kept),
@@ -146,11 +147,13 @@ impl<T: Lane> Column<T> {
         }
     }
 
-    /// Adds copies of the rows of another column of the same type at the end.
+    /// Adds copies of the rows of another column of the same type at the end. After an error some
+    /// of them, from the first one on, may be there.
     pub fn append(&mut self, more: &Column<T>) -> Result<(), AllocError>
         requires { self.old.kind ≡ more.now.kind }
         ensures kind { self.new.kind ≡ self.old.kind }
-        ensures values { OnOk result (self.new.values ≡ self.old.values ++ more.now.values) }
+        ensures ok { OnOk result (self.new.values ≡ self.old.values ++ more.now.values) }
+        ensures err { OnErr result ((rows : ℕ) × (self.new.values ≡ self.old.values ++ take rows more.now.values)) }
     {
         for row in 0..more.len() {
             self.push_copy(more, row)?;
