@@ -49,6 +49,12 @@ pub type PlaceList = Items<usize>;
 /// Whole numbers.
 pub type WholeList = Items<i64>;
 
+/// Numbers of at most 32 bits, as levels and places in a dictionary.
+pub type NumberList = Items<u32>;
+
+/// Truth values.
+pub type Flags = Items<bool>;
+
 /// The values of a row, in the order of the columns.
 pub type Row = Items<Value>;
 

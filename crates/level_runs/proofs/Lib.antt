@@ -1,0 +1,9 @@
+pub mod Chains
+pub mod Cutting
+pub mod Filling
+pub mod Joining
+pub mod Places
+pub mod Spelling
+pub mod Taking
+pub mod Turns
+pub mod Using

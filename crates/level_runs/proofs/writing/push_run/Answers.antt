@@ -1,0 +1,8 @@
+use Rattle.std.proofs.lemmas.List.{take_rest}
+use Rattle.level_runs.proofs.Cutting.{packed_taken}
+use Rattle.level_runs.proofs.writing.push_run.Goals as goal
+
+pub returns : goal.returns
+returns c =
+    packed_taken c.args.width c.packed_groups-groups.result c.min-taken.result c.args.numbers.now _ c.args.out.now c.push_packed.new.out c.packed_groups-groups.ensures.some c.packed_groups-groups.ensures.within
+    c.requires.some c.min-taken.ensures (take_rest c.args.numbers.now c.min-taken.result) c.in_ok-push_packed.ensures

@@ -1,0 +1,5 @@
+pub mod Answers
+pub mod Bits
+pub mod Reading
+pub mod Runs
+pub mod Varint
