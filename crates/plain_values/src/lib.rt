@@ -1,0 +1,20 @@
+//! Values as PLAIN writes them, for the eight physical types of Parquet.
+#![tactic(auto)]
+
+mod fault;
+mod in_turn;
+mod laws;
+mod physical;
+mod plain;
+mod truth;
+
+pub use fault::PlainFault;
+pub use laws::{plain_again, plain_tells};
+pub use physical::{
+    PlainByteArray, PlainDouble, PlainFixed, PlainFloat, PlainInt32, PlainInt64, PlainInt96,
+};
+pub use plain::{Plain, read_plain, write_plain};
+pub use truth::PlainBoolean;
+
+#[cfg(test)]
+mod tests;
