@@ -1,11 +1,8 @@
 -- The newest of some versions, and whether one below it is missing.
-use Rattle.std.proofs.Common.{◌≡◌, ℕ, zero, suc, ◌+◌, ◌-◌, ◌<◌, ◌≤◌, max, List, [], ◌∷◌, ◌++◌, length, drop, get_or, add-one, append-nil, append_assoc, Option, Some, None, Result, Ok, Err, refl, sym, ap, ◌∙◌, subst, Bool, true, false, ◌==◌, ◌||◌, cond, inl, inr, ◌⊎◌, arith}
-use Rattle.std.specs.List.{list_any, AllByRecursion}
+use Rattle.std.proofs.Common.{◌≡◌, ℕ, zero, suc, ◌+◌, ◌-◌, ◌<◌, ◌≤◌, max, List, [], ◌∷◌, length, add-one, Option, Some, None, Ok, Err, refl, sym, ◌∙◌, subst, Bool, true, false, ◌==◌, inl, inr, ◌⊎◌, arith}
+use Rattle.std.specs.List.{AllByRecursion}
 use Rattle.std.proofs.lemmas.Bool.{cases_lt, eqb-true}
 use Rattle.std.proofs.lemmas.Bool.Decides.{nat_tests}
-use Rattle.std.proofs.lemmas.List.Folds.{list_any-append}
-use Rattle.std.proofs.Math.Seq.{drop-cons}
-use Rattle.log_replay.specs.declared.numbers.NumberFault.{NumberFault}
 use Rattle.log_replay.specs.declared.numbers.NumberFault.TheVariants as fault
 use Rattle.std.specs.List.Sorted.{IsStrictlySortedBy}
 use Rattle.std.specs.Ordering.{nat_cmp}

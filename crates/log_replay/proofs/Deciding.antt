@@ -1,7 +1,7 @@
 -- What the newest actions decide, from the end of the log to its front.
 use Rattle.std.proofs.Common.{◌≡◌, ℕ, ◌+◌, ◌<◌, length, drop, get_or, add-one, List, [], ◌∷◌, ◌++◌, Bool, true, false, ◌||◌, ◌&&◌, not, cond, map, Option, Some, None, is_some, refl, sym, ap, ◌∙◌, append_assoc, arith}
-use Rattle.std.specs.Prelude.{reverse, filter, option_to_list, Result, Ok, Err, IfOk}
-use Rattle.std.specs.List.{cons_option, filter_map}
+use Rattle.std.specs.Prelude.{filter, Result, Ok, Err, IfOk}
+use Rattle.std.specs.List.{cons_option}
 use Rattle.std.specs.Map as entries
 use Rattle.std.specs.Str.{bytes_eq}
 use Rattle.std.proofs.lemmas.List.{reverse-append, append-nil, map-append}
@@ -302,20 +302,9 @@ pub commits_end : {A : Type 0} (keep : AddAction → A) (decided : Decided A) (a
 unfolding live_adds lines
 commits_end keep decided all rest none before = let e : rest ≡ [] = nothing_left rest none in rw e at before
 
--- ---- what is kept, from the last entry to the first
+-- ---- what is kept
 
-cons_first : {A : Type 0} (files : List A) (kept : Option A) (rest : List A) → files ++ cons_option kept rest ≡ (files ++ option_to_list kept) ++ rest
-cons_first files None rest = rw (append-nil files) refl
-cons_first files (Some file) rest = sym (append_assoc files (file ∷ []) rest)
-
-pub popped_step : {A : Type 0} (start old now : Decided A) (entry : List ℕ × Option A) (files more : List A) → live_among start ≡ files ++ live_among old → old ≡ now ++ entry ∷ [] → more ≡ files ++ option_to_list entry.1 → live_among start ≡ more ++ live_among now
-popped_step {A} start old now entry files more so_far split is =
-    so_far ∙ ap (λ (all : Decided A). files ++ live_among all) split ∙ ap (λ all. files ++ all) (live_among-push now entry.0 entry.1) ∙ cons_first files entry.1 (live_among now) ∙ ap (λ all. all ++ live_among now) (sym is)
-
-pub popped_end : {A : Type 0} (start old : Decided A) (files : List A) → live_among start ≡ files ++ live_among old → length old ≡ 0 → files ≡ live_among start
-popped_end start old files so_far none = let e : old ≡ [] = nothing_left old none in sym (so_far ∙ rw e (append-nil files))
-
--- the files that are there among what is kept
+-- of the live files, where it is that of what was decided
 pub files_kept : {A E : Type 0} (keep : AddAction → A) (decided : Decided A) (all : List Commit) (found : Result (List A) E) → live_among decided ≡ map keep (live_adds all) → IfOk found (λ files. files ≡ live_among decided) → IfOk found (λ files. files ≡ map keep (live_adds all))
 files_kept keep decided all (Ok files) live found = found ∙ live
 files_kept keep decided all (Err e) live found = tt

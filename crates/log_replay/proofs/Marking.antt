@@ -1,16 +1,15 @@
 -- The last of its kind, and the marks commit by commit.
-use Rattle.std.proofs.Common.{◌≡◌, ℕ, zero, suc, ◌+◌, ◌<◌, ◌≤◌, ℤ, List, [], ◌∷◌, ◌++◌, length, take, get_or, add-one, append-nil, Option, Some, None, Bool, true, false, cond, refl, sym, ap, ◌∙◌, arith}
-use Rattle.std.specs.Prelude.{int_lt, is_some}
-use Rattle.std.specs.List.{filter_map, flat_map, cons_option, last_or}
+use Rattle.std.proofs.Common.{◌≡◌, ℕ, ◌+◌, ◌<◌, ℤ, List, [], ◌∷◌, ◌++◌, length, take, get_or, add-one, append-nil, Option, Some, None, cond, refl, sym, ap, ◌∙◌}
+use Rattle.std.specs.Prelude.{int_lt}
+use Rattle.std.specs.List.{filter_map, last_or}
 use Rattle.std.specs.Option.{option_or}
 use Rattle.std.proofs.lemmas.Grind.{flat_map-append}
 use Rattle.std.proofs.lemmas.List.Elements.{filter_map-append}
 use Rattle.std.proofs.Math.Seq.{take-suc}
-use Rattle.std.proofs.lemmas.List.{take_all}
 use Rattle.delta_actions.specs.declared.action.DomainAction.{DomainAction}
 use Rattle.delta_actions.specs.declared.action.Action.{Action}
 use Rattle.log_replay.specs.declared.commits.Commit.{Commit}
-use Rattle.log_replay.specs.Force.{all_actions, last_said, in_force, tracking_in, mark_from, mark_in_force, mark_after, mark_behind, fallen_within, fallen}
+use Rattle.log_replay.specs.Force.{all_actions, last_said, in_force, tracking_in, mark_from, mark_in_force, mark_after, mark_behind, fallen_within}
 
 last-append : {A : Type 0} (o : Option A) (xs ys : List A) → last_or o (xs ++ ys) ≡ last_or (last_or o xs) ys
 last-append o [] ys = refl
@@ -51,16 +50,6 @@ pub force_on : {A : Type 0} (says : Action → Option A) (all rest earlier : Lis
 force_on says all rest earlier c same split said =
     sym (in_force-push says earlier c ∙ rw said refl) ∙ ap (in_force says) (sym split) ∙ same
 
-nothing_left : {A : Type 0} (xs : List A) → length xs ≡ 0 → xs ≡ []
-nothing_left [] is = refl
-nothing_left (x ∷ xs) is = absurd (omega arith)
-
-pub said_end : {A : Type 0} (says : Action → Option A) (all rest : List Action) → last_said says rest ≡ last_said says all → length rest ≡ 0 → None ≡ last_said says all
-said_end says all rest same none = let e : rest ≡ [] = nothing_left rest none in rw e at same
-
-pub force_end : {A : Type 0} (says : Action → Option A) (all rest : List Commit) → in_force says rest ≡ in_force says all → length rest ≡ 0 → None ≡ in_force says all
-force_end says all rest same none = let e : rest ≡ [] = nothing_left rest none in rw e at same
-
 -- ---- the marks
 
 from_behind : (last before : Option DomainAction) → mark_from (option_or last before) ≡ mark_behind (mark_from before) last
@@ -75,6 +64,3 @@ mark_next commits c n before within here is =
 pub fallen_next : (commits : List Commit) (n : ℕ) (before mark : ℤ) (fell now : Option ℤ) → before ≡ mark_after commits n → mark ≡ mark_after commits (n + 1) → fell ≡ fallen_within commits n → now ≡ option_or fell (cond (int_lt mark before) (Some mark) None) → now ≡ fallen_within commits (n + 1)
 unfolding fallen_within
 fallen_next commits n before mark fell now is next so_far step = rw (step, so_far, is, next, add-one n) refl
-
-pub marks_end : (commits : List Commit) (n : ℕ) (mark : ℤ) → length commits ≤ n → mark ≡ mark_after commits n → mark ≡ mark_in_force commits
-marks_end commits n mark past is = is ∙ ap mark_in_force (take_all n commits past)

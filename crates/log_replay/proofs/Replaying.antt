@@ -1,5 +1,5 @@
 -- One more commit, and the files that are live after it.
-use Rattle.std.proofs.Common.{◌≡◌, ◌⊎◌, ℕ, suc, ◌+◌, ◌<◌, ◌≤◌, List, [], ◌∷◌, ◌++◌, length, Option, Some, None, refl, ap, sym, ◌∙◌, inl, inr, Bool, true, false, ◌&&◌, ◌||◌, ◌==◌, cond, not, nat_lt, arith, append_assoc}
+use Rattle.std.proofs.Common.{◌≡◌, ◌⊎◌, ℕ, ◌+◌, ◌<◌, ◌≤◌, List, [], ◌∷◌, ◌++◌, length, Option, Some, None, refl, ap, sym, ◌∙◌, inl, inr, Bool, true, false, ◌&&◌, ◌||◌, ◌==◌, cond, not, nat_lt, arith, append_assoc}
 use Rattle.std.specs.List.{filter, filter_map, cons_option, list_any, AllByRecursion}
 use Rattle.std.proofs.lemmas.Bool.Decides.{nat_tests}
 use Rattle.std.proofs.lemmas.List.{append-nil}
@@ -7,7 +7,6 @@ use Rattle.std.proofs.lemmas.List.Elements.{filter_map-append}
 use Rattle.std.proofs.lemmas.List.Folds.{list_any-append}
 use Rattle.delta_actions.specs.declared.action.AddAction.{AddAction}
 use Rattle.delta_actions.specs.declared.action.Action.{Action}
-use Rattle.delta_actions.specs.declared.action.Action.TheVariants as action
 use Rattle.log_replay.specs.declared.commits.Commit.{Commit}
 use Rattle.log_replay.specs.Live.{AreNumbered, Line, line_at, lines_of, lines, added, is_add, is_of, takes_away, live_of, live_at, live_adds}
 use Rattle.log_replay.specs.Deciding.{mentions, adds, unless_again, last_adds, after_commit}

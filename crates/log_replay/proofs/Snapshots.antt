@@ -4,7 +4,6 @@ use Rattle.delta_actions.specs.declared.action.AddAction.{AddAction}
 use Rattle.delta_actions.specs.declared.action.MetadataAction.{MetadataAction}
 use Rattle.delta_actions.specs.declared.action.ProtocolAction.{ProtocolAction}
 use Rattle.log_replay.specs.declared.commits.Commit.{Commit}
-use Rattle.log_replay.specs.declared.snapshot.Snapshot.{Snapshot}
 use Rattle.log_replay.specs.Force.{in_force, metadata_in, protocol_in, mark_in_force, fallen}
 use Rattle.log_replay.specs.Live.{live_adds}
 use Rattle.log_replay.specs.Replay.{newest, snapshot_of}

@@ -1,5 +1,5 @@
 -- What is in force: the last of its kind in log order (PROTOCOL.md, "Action Reconciliation").
-use Rattle.std.specs.Prelude.{ℕ, zero, suc, ℤ, negsuc, int_lt, List, Bool, false, Option, Some, None, take, length, codes, unwrap_or, if◌then◌else◌}
+use Rattle.std.specs.Prelude.{ℕ, zero, suc, ℤ, negsuc, int_lt, List, false, Option, Some, None, take, length, codes, unwrap_or, if◌then◌else◌}
 use Rattle.std.specs.List.{filter_map, flat_map, last_or}
 use Rattle.std.specs.Option.{option_or}
 use Rattle.std.specs.Str.{bytes_eq}

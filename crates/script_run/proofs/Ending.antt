@@ -1,5 +1,5 @@
 -- What is due, and how its line ends the run.
-use Rattle.std.proofs.Common.{◌≡◌, ℕ, ◌+◌, ◌<◌, ◌≤◌, List, [], ◌∷◌, length, take, ◌==◌, Bool, true, false, nat_lt, Option, Some, None, Ok, Err, refl, sym, ap, ◌∙◌, arith}
+use Rattle.std.proofs.Common.{◌≡◌, ℕ, ◌+◌, ◌<◌, List, [], ◌∷◌, length, take, ◌==◌, Bool, true, false, nat_lt, Option, Some, None, Ok, Err, refl, sym, ap, ◌∙◌, arith}
 use Rattle.std.specs.Prelude.{IfSome, replicate}
 use Rattle.std.specs.Io.KnownBytes.{Appends}
 use Rattle.std.proofs.lemmas.Bool.Decides.{nat_tests}
@@ -10,7 +10,6 @@ use Rattle.dm_store.specs.Taking.{TakesAll}
 use Rattle.dm_store.specs.declared.faults.SinkFault.{SinkFault}
 use Rattle.dm_store.specs.declared.faults.SinkFault.TheVariants as sink
 use Rattle.dm_store.specs.declared.read_all.TakeFault.TheVariants as fault
-use Rattle.script_run.specs.declared.outcome.Due.{Due}
 use Rattle.script_run.specs.declared.outcome.Due.TheVariants as due
 use Rattle.script_run.specs.declared.outcome.Outcome.{Outcome}
 use Rattle.script_run.specs.declared.status.Status.{Status}
@@ -51,21 +50,10 @@ long n = (replicate (n + 1) 0, omega (arith, length-replicate {A = ℕ} (n + 1) 
 past_limit : (bytes : List ℕ) → max_script < length bytes → due_of {W = ℕ} [] bytes ≡ due.Ends (ending status.BadScript (refused_line 0 (80 ∷ 50 ∷ [])))
 past_limit bytes over = let e : nat_lt max_script (length bytes) ≡ true = grind (arith, nat_tests) in rw e refl
 
-within_limit : (bytes : List ℕ) → length bytes ≤ max_script → due_of {W = ℕ} [] bytes ≡ due_of_script (statements_of bytes)
-within_limit bytes under = let e : nat_lt max_script (length bytes) ≡ false = grind (arith, nat_tests) in rw e refl
-
 pub due_too_long : {W : Type 0} (words : List W) (left : Option (List ℕ)) (line : Outcome) → words ≡ [] → TakesAll max_script left (Err fault.TooLong) → line ≡ ending status.BadScript (refused_line 0 (80 ∷ 50 ∷ [])) → Reaches words left (Ok (due.Ends line))
 due_too_long (word ∷ words) left line none over is = absurd cc
 due_too_long [] None line none over is = let some = long max_script in (some.0, tt, ap due.Ends is ∙ sym (past_limit some.0 some.1))
 due_too_long [] (Some bytes) line none over is = (bytes, refl, ap due.Ends is ∙ sym (past_limit bytes over))
-
-script_taken : (left : Option (List ℕ)) (text : List ℕ) → TakesAll max_script left (Ok text) → IfSome left (λ bytes. text ≡ bytes)
-script_taken None text taken = tt
-script_taken (Some bytes) text taken = taken.0
-
-pub due_read : {W : Type 0} (words : List W) (left : Option (List ℕ)) (text : List ℕ) (what : Due) → words ≡ [] → TakesAll max_script left (Ok text) → length text ≤ max_script → what ≡ due_of_script (statements_of text) → Reaches words left (Ok what)
-due_read (word ∷ words) left text what none taken short is = absurd cc
-due_read [] left text what none taken short is = (text, script_taken left text taken, is ∙ sym (within_limit text short))
 
 -- ---- the line that ends the run
 
@@ -77,10 +65,6 @@ pub line_written : (line : Outcome) (old new : Option (List ℕ)) (piece : List 
 line_written line old new piece is written = (piece, written, λ files. rw is (ended line files))
 
 -- ---- what was due is done
-
-pub line_ran : {W : Type 0} (words : List W) (left : Option (List ℕ)) (files : Option Files) (old new : Option (List ℕ)) (line : Outcome) (end : Status) → Reaches words left (Ok (due.Ends line)) → EndsRun line old new end → Ran words left files files old new end
-line_ran words left files old new line end (script, of_source, is) (text, written, does) =
-    record { script = script; text = text; of_source = of_source; written = written; does = rw (← is) (does files) }
 
 pub statements_ran : {W : Type 0} (words : List W) (left : Option (List ℕ)) (files files_new : Option Files) (old new : Option (List ℕ)) (statements : List Statement) (end : Status)
     → Reaches words left (Ok (due.Runs statements)) → RunsAll statements files files_new old new end → Ran words left files files_new old new end

@@ -1,5 +1,5 @@
 -- Reading statement after statement.
-use Rattle.std.proofs.Common.{ℕ, zero, suc, ◌+◌, ◌≡◌, ◌≢◌, ◌≤◌, ◌<◌, List, [], ◌∷◌, ◌++◌, length, drop, length-drop, append-nil, append_assoc, Bool, true, false, ◌==◌, Option, Some, None, option_map, refl, sym, ap, ◌∙◌, subst, arith}
+use Rattle.std.proofs.Common.{ℕ, zero, suc, ◌+◌, ◌≡◌, ◌≤◌, ◌<◌, List, [], ◌∷◌, ◌++◌, length, drop, length-drop, append_assoc, Bool, true, false, ◌==◌, Option, Some, None, option_map, refl, sym, ap, ◌∙◌, subst, arith}
 use Rattle.std.specs.Prelude.{codes}
 use Rattle.std.specs.List.{take_while}
 use Rattle.std.specs.Str.{is_utf8, str_eq_ignore_ascii_case}
@@ -128,17 +128,6 @@ joined_goes_on text rest behind left found more first so_far read pushed gap ste
 
 pub left_shorter : (rest behind left : List ℕ) (first : Statement) → Some (first, behind) ≡ statement_of rest → left ≡ past_gap behind → length left < length rest
 left_shorter rest behind left first read gap = omega (arith, statement_short rest first behind (sym read), past_gap-short behind, ap length gap)
-
-with_none : (rest : List ℕ) (more : List ℕ → Option (List Statement)) → rest ≢ [] → None ≡ statement_of rest → with_statement rest more ≡ None
-with_none [] more some none = absurd (some refl)
-with_none (b ∷ rest) more some none = rw (← none) refl
-
-pub joined_fails : (text rest : List ℕ) (found : List Statement) → IsJoined text found rest → rest ≢ [] → None ≡ statement_of rest → None ≡ statements_in (length text + 1) text
-joined_fails text rest found so_far some none = sym (so_far (length rest) (omega arith) ∙ rw (with_none rest (statements_in (length rest)) some none) refl)
-
-pub joined_ends : (text rest : List ℕ) (found : List Statement) → IsJoined text found rest → rest ≡ [] → Some found ≡ statements_in (length text + 1) text
-joined_ends text [] found so_far none = sym (so_far 0 (omega arith) ∙ ap Some (append-nil found))
-joined_ends text (b ∷ rest) found so_far none = absurd cc
 
 -- ---- the statement in front
 

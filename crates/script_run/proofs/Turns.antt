@@ -73,9 +73,6 @@ pub record AreAccepted (statements : List Statement) (count : ℕ) (files now : 
   pub written : Appends old new text
   pub onward : (files_new : Option Files) (rest : List ℕ) (end : Status) → Runs (count + 1) (drop count statements) now files_new rest end → Runs 1 statements files files_new (text ++ rest) end
 
-pub accepted_none : (statements : List Statement) (files : Option Files) (old : Option (List ℕ)) → AreAccepted statements 0 files files old old
-accepted_none statements files old = record { text = []; written = appends_same old; onward = λ files_new rest end runs. runs }
-
 pub accepted_more : (statements : List Statement) (count : ℕ) (files mid now : Option Files) (old between new : Option (List ℕ)) (first : Statement)
     → AreAccepted statements count files mid old between → count < length statements → first ≡ get_or statements count first → RunsOne (count + 1) first mid now between new (Ok tt) → AreAccepted statements (count + 1) files now old new
 accepted_more statements count files mid now old between new first so_far within is (text, answered, written) = record {

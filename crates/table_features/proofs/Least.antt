@@ -43,9 +43,6 @@ apart false is other = cc
 at_or_below : (place count : ℕ) → place < count + 1 → (place < count) ⊎ (place ≡ count)
 at_or_below place count within = elim (cases_lt place count) [ inl less ↦ inl less | inr past ↦ inr (omega arith) ]
 
-pub least_none : (knows : List ℕ → Bool) (names : List (List ℕ)) → IsLeastOf knows names 0 None
-least_none knows names = λ place within. absurd (omega arith)
-
 -- the name at the next place comes first
 pub least_new : (knows : List ℕ → Bool) (names : List (List ℕ)) (least : Option ℕ) (count : ℕ) → IsLeastOf knows names count least → is_below_least knows names least count ≡ true → IsLeastOf knows names (count + 1) (Some count)
 least_new knows names None count known below =

@@ -1,4 +1,4 @@
-use Rattle.std.proofs.Common.{rules, arith, ap, length}
+use Rattle.std.proofs.Common.{rules}
 use Rattle.log_replay.proofs.Counting.{counted_none, counted_more, counted_gap, counted_nothing, counted_all, counted_last}
 use Rattle.log_replay.proofs.numbers.check_numbers.Goals as goal
 
