@@ -1,5 +1,5 @@
 -- The files of a store as a list of pairs of path and bytes, in the order of their puts.
-use Rattle.std.specs.Prelude.{◌≡◌, ◌≢◌, ◌⊎◌, ℕ, ◌+◌, List, [], ◌∷◌, ◌++◌, length, take, drop, slice_index, Option, Some, None, Result, Ok, Err, ⊤, if◌then◌else◌, ◌&&◌, ◌==◌, not}
+use Rattle.std.specs.Prelude.{◌≡◌, ◌≢◌, ◌⊎◌, ℕ, ◌+◌, List, [], ◌∷◌, ◌++◌, length, take, drop, slice_index, Option, Some, None, Result, Ok, Err, ⊤, Bool, if◌then◌else◌, ◌&&◌, ◌||◌, ◌==◌, not}
 use Rattle.std.specs.Option.{option_map}
 use Rattle.std.specs.List.{filter_map, list_any, IsDistinct}
 use Rattle.std.specs.List.Sorted.{IsPermutation}
@@ -37,6 +37,10 @@ name_below dir path =
 abbrev pub names_below : List ℕ → Files → List (List ℕ)
 names_below dir files = filter_map (λ file. name_below dir file.0) files
 
+-- whether a text is in the list
+abbrev pub is_among : List ℕ → List (List ℕ) → Bool
+is_among text texts = list_any (bytes_eq text) texts
+
 -- told files with these behind them
 abbrev pub appended : Option Files → Files → Option Files
 appended told block = option_map (λ files. files ++ block) told
@@ -45,6 +49,11 @@ appended told block = option_map (λ files. files ++ block) told
 abbrev pub Lists : List ℕ → Option Files → Result (List (List ℕ)) ListFault → Type 0
 Lists dir told (Ok names) = WhereTold told (λ files. IsPermutation (names_below dir files) names)
 Lists dir told (Err e) = ⊤
+
+-- what a listing says that has the names of a list besides: each name once, and those of both
+abbrev pub ListsBoth : List ℕ → Files → List (List ℕ) → Result (List (List ℕ)) ListFault → Type 0
+ListsBoth dir files added (Ok names) = IsDistinct bytes_eq names × ((name : List ℕ) → is_among name names ≡ (is_among name (names_below dir files) || is_among name added))
+ListsBoth dir files added (Err e) = ⊤
 
 -- no file has the path
 abbrev pub IsAbsent : List ℕ → Option Files → Type 0

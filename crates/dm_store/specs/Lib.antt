@@ -1,9 +1,11 @@
 pub mod Causes
 pub mod Files
 pub mod Streams
+pub mod Given
 pub mod Plan
 pub mod Answers
 pub mod MemoryFiles
 pub mod MemoryStreams
 pub mod MemoryAnswers
 pub mod Taking
+pub mod Claims

@@ -2,6 +2,7 @@
 //! objects in memory that stand for it.
 #![tactic(auto)]
 
+mod claim_store;
 mod faults;
 mod finds;
 mod laws;
@@ -17,8 +18,10 @@ mod sure_names;
 mod sure_sink;
 mod sure_source;
 mod sure_store;
+mod texts;
 mod traits;
 
+pub use claim_store::ClaimStore;
 pub use faults::{Failed, ListFault, PutFault, ReadFault, SinkFault};
 pub use laws::lists_once;
 pub use memory_clock::MemoryClock;

@@ -7,7 +7,7 @@ use dm_types::WholeList;
 use std::alloc::AllocError;
 
 /// A clock that answers its list in order and then the last answer again, and 0 where the list is
-/// empty.
+/// empty. It tells its answers until it had 2^64 - 1 calls.
 #[derive(Drop)]
 pub struct MemoryClock {
     answers: WholeList,
@@ -28,9 +28,13 @@ impl MemoryClock {
 
 impl Clock for MemoryClock {
     ghost use Rattle.std.specs.Prelude.{◌+◌, ◌-◌, ◌^◌, min};
-    ghost use Rattle.dm_store.specs.MemoryAnswers.{clock_answers, clock_calls};
+    ghost use Rattle.dm_store.specs.Given.{Gave};
+    ghost use Rattle.dm_store.specs.MemoryAnswers.{clock_answers, clock_calls, clock_given};
+
+    ghost given = { clock_given };
 
     fn now_ms(&mut self) -> i64
+        ensures given { Gave (clock_given self.old) (clock_given self.new) result }
         ensures time { result ≡ spec.time_at (clock_answers self.old) (clock_calls self.old) }
         ensures answers { clock_answers self.new ≡ clock_answers self.old }
         ensures calls { clock_calls self.new ≡ min (clock_calls self.old + 1) (2 ^ 64 - 1) }

@@ -9,7 +9,8 @@ use dm_types::{CountList, NameList};
 use std::alloc::AllocError;
 
 /// A source that answers its names in order and then the number of the draw, with the highest byte
-/// first, and has draws that are to fail. A draw that fails passes its name by.
+/// first, and has draws that are to fail. A draw that fails passes its name by. It tells its answers
+/// until it had 2^64 - 1 draws.
 #[derive(Drop)]
 pub struct MemoryNames {
     names: NameList,
@@ -37,13 +38,17 @@ impl MemoryNames {
 impl NameSource for MemoryNames {
     ghost use Rattle.std.specs.Prelude.{◌↔◌, IsErr};
     ghost use Rattle.dm_store.specs.Answers as spec;
-    ghost use Rattle.dm_store.specs.MemoryAnswers.{memory_names, names_faults, names_plan};
+    ghost use Rattle.dm_store.specs.MemoryAnswers.{memory_names, names_faults, names_given, names_plan};
     ghost use Rattle.dm_store.specs.Plan.{IsPlanned, next_call};
     ghost use Rattle.dm_store.specs.Causes.{Counts, FailedCause};
+    ghost use Rattle.dm_store.specs.Given.{Draws};
+
+    ghost given = { names_given };
 
     ghost faults = { names_faults };
 
     fn draw(&mut self) -> Result<[u8; 16], Failed>
+        ensures given { Draws (names_given self.old) (names_given self.new) result }
         ensures cause { Counts FailedCause (names_faults self.old) (names_faults self.new) result }
         ensures name { IfOk result (λ name. name ≡ spec.name_at (memory_names self.old) (names_plan self.new).0) }
         ensures names { memory_names self.new ≡ memory_names self.old }

@@ -8,7 +8,7 @@ use dm_types::NameList;
 use std::alloc::AllocError;
 
 /// A source that answers its names in order and then the number of the draw, with the highest byte
-/// first. It never fails.
+/// first. It never fails, and tells its answers until it had 2^64 - 1 draws.
 #[derive(Drop)]
 pub struct SureNames {
     names: NameList,
@@ -29,12 +29,16 @@ impl SureNames {
 
 impl NameSource for SureNames {
     ghost use Rattle.std.specs.Prelude.{◌+◌, ◌-◌, ◌^◌, min};
-    ghost use Rattle.dm_store.specs.MemoryAnswers.{sure_names, sure_draws};
+    ghost use Rattle.dm_store.specs.MemoryAnswers.{sure_names, sure_draws, sure_given};
     ghost use Rattle.dm_store.specs.Causes.{Counts, FailedCause};
+    ghost use Rattle.dm_store.specs.Given.{Draws};
+
+    ghost given = { sure_given };
 
     ghost faults = { λ s. 0 };
 
     fn draw(&mut self) -> Result<[u8; 16], Failed>
+        ensures given { Draws (sure_given self.old) (sure_given self.new) result }
         ensures cause { Counts FailedCause 0 0 result }
         ensures name { IfOk result (λ name. name ≡ spec.name_at (sure_names self.old) (sure_draws self.new)) }
         ensures draws { sure_draws self.new ≡ min (sure_draws self.old + 1) (2 ^ 64 - 1) }

@@ -6,7 +6,11 @@ use std::test::Fail;
 #[test]
 fn a_store_fails_as_planned(rt: HostRuntime) -> Result<(), Fail> {
     let alloc = rt.alloc();
-    let mut store = MemoryStore::new(alloc, CountList::from_slice(alloc, &[2])?)?;
+    let mut store = MemoryStore::new(
+        alloc,
+        CountList::from_slice(alloc, &[2])?,
+        CountList::new(alloc),
+    )?;
     assert!(rt; store.put_new("t/a", b"one").is_ok());
     assert!(rt; matches!(store.read(alloc, "t/a"), Err(ReadFault::Failed)));
     let found = store.read(alloc, "t/a").expect(&rt, "read");

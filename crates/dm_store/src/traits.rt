@@ -1,9 +1,10 @@
 // The outside: a store of files, a source, a sink, a clock and a source of names.
-ghost use Rattle.std.specs.Prelude.{◌≡◌, ℕ, List, Option};
+ghost use Rattle.std.specs.Prelude.{◌≡◌, ℕ, ℤ, List, Option};
 ghost use Rattle.std.specs.Io.{ReadsAtMost};
 ghost use Rattle.std.specs.Io.KnownBytes.{ReadConsumes};
 ghost use Rattle.dm_store.specs.Causes.{Counts, ListCause, ReadCause, PutCause, TakenCause, SinkCause, FailedCause};
 ghost use Rattle.dm_store.specs.Files.{Files, Lists, Reads, Puts, WhereTold, ArePathsDistinct};
+ghost use Rattle.dm_store.specs.Given.{Gave, Draws};
 ghost use Rattle.dm_store.specs.Streams.{Writes};
 
 use crate::faults::{Failed, ListFault, PutFault, ReadFault, SinkFault};
@@ -77,18 +78,26 @@ pub trait Sink {
         ensures cause { Counts SinkCause (faults self.old) (faults self.new) result };
 }
 
-/// A clock. Nothing is promised about its answers.
+/// A clock. Nothing is promised about the answers themselves.
 pub trait Clock {
+    /// Its answers so far, where the clock tells them.
+    ghost given: { Self → Option (List ℤ) };
+
     /// Milliseconds since 1970-01-01 00:00 UTC.
-    fn now_ms(&mut self) -> i64;
+    fn now_ms(&mut self) -> i64
+        ensures given { Gave (given self.old) (given self.new) result };
 }
 
-/// A source of names of sixteen bytes. Nothing is promised about its answers.
+/// A source of names of sixteen bytes. Nothing is promised about the answers themselves.
 pub trait NameSource {
+    /// Its answers so far, without the draws that failed, where the source tells them.
+    ghost given: { Self → Option (List (List ℕ)) };
+
     /// How often a draw failed. It never falls, and stands still at the end of a `u64`.
     ghost faults: { Self → ℕ };
 
     /// The next name.
     fn draw(&mut self) -> Result<[u8; 16], Failed>
-        ensures { Counts FailedCause (faults self.old) (faults self.new) result };
+        ensures given { Draws (given self.old) (given self.new) result }
+        ensures cause { Counts FailedCause (faults self.old) (faults self.new) result };
 }
