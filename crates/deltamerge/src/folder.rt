@@ -15,7 +15,8 @@ use std::{fs, io};
 
 /// The files below the working folder of a runtime. It tells none of them.
 ///
-/// A file gets its name when its bytes are on the disk. A symbolic link to a file is that file.
+/// A file gets its name when its bytes are on the disk, and no name is given twice, whoever else
+/// writes there. A symbolic link to a file is that file.
 #[derive(Drop)]
 pub struct Folder<R> {
     rt: R,
@@ -127,7 +128,8 @@ fn whole_file(files: &impl Files, alloc: Global, path: &str) -> io::Result<Bytes
     Ok(Bytes::from_vec(bytes))
 }
 
-// Puts the file unless its name is there, and says whether it did.
+// Puts the file unless its name is there, and says whether it did. Behind the first look another
+// writer may still take the name.
 fn put_absent<R: Files + AllocGlobal + RandomSource>(
     rt: &R,
     path: &str,
@@ -136,17 +138,20 @@ fn put_absent<R: Files + AllocGlobal + RandomSource>(
     if is_taken(rt, path)? {
         return Ok(false);
     }
-    if let Some((folder, _)) = path.rsplit_once('/') {
-        fs::create_dir_all(rt, folder)?;
-    }
+    let folder = path.rsplit_once('/').map_or(".", |(folder, _)| folder);
+    fs::create_dir_all(rt, folder)?;
     let temporary = temporary_name(rt, path)?;
     let put = put_by_name(rt, temporary.as_str(), path, bytes);
-    if put.is_err() {
-        // The first fault is the one to tell, also where this call fails.
-        let _ = fs::remove_file(rt, temporary.as_str());
+    // A temporary name that is left behind is in nobody's way, so only faults of the put are told.
+    let _ = fs::remove_file(rt, temporary.as_str());
+    if !put? {
+        return Ok(false);
     }
-    put?;
-    Ok(true)
+    // The file is there by now, so no fault of this call may be told as want of memory.
+    match sync_folder(rt, folder) {
+        Ok(()) => Ok(true),
+        Err(_) => Err(io::Error::from(ErrorKind::Other)),
+    }
 }
 
 // Whether the name is there, also as a folder or as a link that leads nowhere.
@@ -171,10 +176,28 @@ fn temporary_name<R: AllocGlobal + RandomSource>(rt: &R, path: &str) -> io::Resu
     Ok(format!(in rt.alloc(); "{path}.{drawn}.tmp")?)
 }
 
-// Writes the bytes under the temporary name, and gives the file its name once they are on the disk.
-fn put_by_name(files: &impl Files, temporary: &str, path: &str, bytes: &[u8]) -> io::Result<()> {
+// Writes the bytes under the temporary name, and gives the file its own name once they are on the
+// disk, unless that is there. Says whether it did.
+fn put_by_name(files: &impl Files, temporary: &str, path: &str, bytes: &[u8]) -> io::Result<bool> {
     write_file(files, temporary, bytes)?;
-    fs::rename(files, temporary, path)
+    link_absent(files, temporary, path)
+}
+
+// Gives the file a second name unless that is there, and says whether it did. A rename would replace
+// what has the name.
+fn link_absent(files: &impl Files, temporary: &str, path: &str) -> io::Result<bool>
+    ensures { IfErr result (λ e. error_kind e ≢ ErrorKind.AlreadyExists) }
+{
+    match fs::hard_link(files, temporary, path) {
+        Ok(()) => Ok(true),
+        Err(error) if error.kind() == ErrorKind::AlreadyExists => Ok(false),
+        Err(error) => Err(error),
+    }
+}
+
+// Brings the names in a folder to the disk.
+fn sync_folder(files: &impl Files, folder: &str) -> io::Result<()> {
+    File::open(files, folder)?.sync_all()
 }
 
 fn write_file(files: &impl Files, path: &str, bytes: &[u8]) -> io::Result<()> {

@@ -1,10 +1,10 @@
 // Names of random bytes.
-ghost use Rattle.std.specs.Prelude.{◌≡◌};
+ghost use Rattle.std.specs.Prelude.{◌≡◌, None};
 
 use dm_store::{Failed, NameSource};
 use std::random::RandomSource;
 
-/// Names drawn from the random bytes of a runtime.
+/// Names drawn from the random bytes of a runtime. It doesn't tell them.
 #[derive(Drop)]
 pub struct RandomNames<R> {
     rt: R,
@@ -21,6 +21,8 @@ impl<R> RandomNames<R> {
 }
 
 impl<R: RandomSource> NameSource for RandomNames<R> {
+    ghost given = { λ s. None };
+
     ghost faults = { λ s. s.faults };
 
     fn draw(&mut self) -> Result<[u8; 16], Failed> {

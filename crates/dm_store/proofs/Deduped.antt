@@ -46,6 +46,8 @@ among-dedup text (t ∷ ts) = kept_from bytes_eq (λ x y. (bytes_eq-Decides x y)
 
 -- a listing whose names were joined to further ones, and then each left once
 pub lists-both : (dir : List ℕ) (files : Files) (names added once : List (List ℕ)) → IsPermutation (names_below dir files) names → IsDistinct bytes_eq once → ((text : List ℕ) → is_among text once ≡ is_among text (names ++ added)) → ListsBoth dir files added (Ok once)
-lists-both dir files names added once listed distinct same =
-    (distinct, λ name.
-    same name ∙ list_any-append (bytes_eq name) names added ∙ ap (λ b. b || is_among name added) (sym (list_any-IsPermutation (bytes_eq name) (names_below dir files) names listed)))
+lists-both dir files names added once listed distinct same = (
+  distinct,
+  λ name.
+      same name ∙ list_any-append (bytes_eq name) names added ∙ ap (λ b. b || is_among name added) (sym (list_any-IsPermutation (bytes_eq name) (names_below dir files) names listed)),
+)

@@ -32,7 +32,11 @@ const TWO: &str = "t/_delta_log/00000000000000000002.json";
 const THREE: &str = "t/_delta_log/00000000000000000003.json";
 
 fn store_of(alloc: Global, files: &[File], failing: &[u64]) -> Result<MemoryStore, Fail> {
-    let mut store = MemoryStore::new(alloc, CountList::from_slice(alloc, failing)?)?;
+    let mut store = MemoryStore::new(
+        alloc,
+        CountList::from_slice(alloc, failing)?,
+        CountList::new(alloc),
+    )?;
     for (path, text) in files {
         store.put_new(path, text.as_bytes())?;
     }

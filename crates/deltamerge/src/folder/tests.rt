@@ -27,6 +27,14 @@ fn puts_reads_and_lists(rt: HostRuntime) -> Result<(), Fail> {
         folder.read(alloc, path.as_str())?.as_slice(),
         b"bytes".as_slice()
     );
+    // The name may be taken behind the first look.
+    let temporary = format!(in alloc; "{path}.tmp")?;
+    assert!(rt; !put_by_name(&rt, temporary.as_str(), path.as_str(), b"more")?);
+    fs::remove_file(&rt, temporary.as_str())?;
+    assert_eq!(rt;
+        folder.read(alloc, path.as_str())?.as_slice(),
+        b"bytes".as_slice()
+    );
     // A file isn't a folder.
     assert_eq!(rt;
         folder.list(alloc, path.as_str()).err(),
