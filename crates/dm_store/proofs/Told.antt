@@ -1,6 +1,6 @@
 -- One more answer of a clock or a source of names.
 use Rattle.std.proofs.Common.{◌≡◌, ℕ, suc, ◌+◌, ◌-◌, ◌^◌, ◌<◌, min, ℤ, List, [], ◌∷◌, ◌++◌, Bool, true, false, cond, Some, None, refl, arith, nat_lt, ltb-true, lt-ltb}
-use Rattle.dm_store.specs.Given.{Gave, KeepsGiven}
+use Rattle.dm_store.specs.Given.{Gave}
 use Rattle.dm_store.specs.Plan.{is_in}
 use Rattle.dm_store.specs.Answers.{told_below, times_until, time_at, names_until, name_at}
 
@@ -8,11 +8,6 @@ gave_cases : {A : Type 0} (was is : Bool) (before now : List A) (x : A) → (is 
 gave_cases was false before now x told = tt
 gave_cases true true before now x told = (told refl).1
 gave_cases false true before now x told = let e = (told refl).0 in cc
-
-keeps_cases : {A : Type 0} (was is : Bool) (before now : List A) → (is ≡ true → (was ≡ true) × (now ≡ before)) → KeepsGiven (cond was (Some before) None) (cond is (Some now) None)
-keeps_cases was false before now told = tt
-keeps_cases true true before now told = (told refl).1
-keeps_cases false true before now told = let e = (told refl).0 in cc
 
 next_is : (n m : ℕ) → m ≡ min (n + 1) (2 ^ 64 - 1) → m < 2 ^ 64 - 1 → (n < 2 ^ 64 - 1) × (m ≡ suc n)
 next_is n m e small = (omega arith, omega arith)
@@ -31,11 +26,3 @@ names_gave names failing n m x e answered is =
     let next = next_is n m e (ltb-true m (2 ^ 64 - 1) told) in
     let last : is_in (suc n) failing ≡ false = rw next.1 at answered in
     (lt-ltb n (2 ^ 64 - 1) next.0, rw (is, next.1, last) refl))
-
--- a source gave no name at a draw that was to fail
-pub names_kept : (names : List (List ℕ)) (failing : List ℕ) (n m : ℕ) → m ≡ min (n + 1) (2 ^ 64 - 1) → is_in m failing ≡ true → KeepsGiven (told_below n (names_until names failing n)) (told_below m (names_until names failing m))
-names_kept names failing n m e failed =
-    keeps_cases (nat_lt n (2 ^ 64 - 1)) (nat_lt m (2 ^ 64 - 1)) (names_until names failing n) (names_until names failing m) (λ told.
-    let next = next_is n m e (ltb-true m (2 ^ 64 - 1) told) in
-    let last : is_in (suc n) failing ≡ true = rw next.1 at failed in
-    (lt-ltb n (2 ^ 64 - 1) next.0, rw (next.1, last) refl))

@@ -1,5 +1,5 @@
 -- What the stores in memory hold.
-use Rattle.std.specs.Prelude.{◌≡◌, ℕ, List, [], ◌∷◌, ◌++◌, Result, Ok, Err, ⊤, if◌then◌else◌}
+use Rattle.std.specs.Prelude.{ℕ, List, [], ◌∷◌, ◌++◌, Result, Ok, Err, ⊤, if◌then◌else◌}
 use Rattle.dm_store.specs.Files.{Files}
 use Rattle.dm_store.specs.Plan.{Plans, is_planned, IsPlanned}
 use Rattle.dm_store.specs.declared.faults.PutFault.{PutFault}
