@@ -269,7 +269,7 @@ kinds_step false true true removing = refl
 kinds_step false true false removing = refl
 kinds_step false false adding removing = refl
 
-mentions-kinds : (commit : List Action) (path : List ℕ) → (adds commit path || removes commit path) ≡ mentions commit path
+pub mentions-kinds : (commit : List Action) (path : List ℕ) → (adds commit path || removes commit path) ≡ mentions commit path
 mentions-kinds [] path = refl
 mentions-kinds (a ∷ more) path =
     kinds_step (is_add a) (is_of path a) (adds more path) (removes more path) ∙ ap (λ (b : Bool). is_of path a || b) (mentions-kinds more path)

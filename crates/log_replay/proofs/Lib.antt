@@ -1,6 +1,8 @@
-pub mod Counting
+mod Coming
+mod Counting
 mod Deciding
+mod Growing
 mod Marking
-pub mod Numbered
+mod Numbered
 mod Replaying
 mod Snapshots

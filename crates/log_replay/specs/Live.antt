@@ -7,6 +7,10 @@ use Rattle.delta_actions.specs.declared.action.Action.{Action}
 use Rattle.delta_actions.specs.declared.action.Action.TheVariants as action
 use Rattle.log_replay.specs.declared.commits.Commit.{Commit}
 
+-- the commit of this version
+abbrev pub numbered : ℕ → List Action → Commit
+numbered version actions = record { version = version; actions = actions }
+
 -- the commits have these numbers in turn
 unfoldable pub AreNumbered : ℕ → List Commit → Type 0
 AreNumbered version [] = ⊤

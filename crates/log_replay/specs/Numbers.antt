@@ -1,5 +1,5 @@
 -- The versions of a log: 0, 1, 2 up to the newest (PROTOCOL.md, "Delta Log Entries").
-use Rattle.std.specs.Prelude.{ℕ, zero, suc, max, List, [], ◌∷◌, Bool, Option, Some, None, Result, Ok, Err, ◌==◌, if◌then◌else◌}
+use Rattle.std.specs.Prelude.{◌≡◌, ℕ, zero, suc, max, List, [], ◌∷◌, Bool, Option, Some, None, Result, Ok, Err, ◌==◌, if◌then◌else◌}
 use Rattle.std.specs.List.{list_any}
 use Rattle.std.specs.Option.{option_or}
 use Rattle.log_replay.specs.declared.numbers.NumberFault.{NumberFault}
@@ -28,3 +28,7 @@ unless_gap (Some missing) newest = Err (fault.Gap missing)
 unfoldable pub newest_of : List ℕ → Result ℕ NumberFault
 newest_of [] = Err fault.Nothing
 newest_of (n ∷ ns) = let newest = greatest (n ∷ ns) in unless_gap (first_missing (n ∷ ns) newest) newest
+
+-- the newest version, or the fault, is told by the members of a list alone
+abbrev pub MembersDecide : Type 0
+MembersDecide = (first second : List ℕ) → ((n : ℕ) → is_in n first ≡ is_in n second) → newest_of first ≡ newest_of second

@@ -1,5 +1,5 @@
 // The versions of a log.
-ghost use Rattle.std.specs.Prelude.{◌≡◌, ℕ, IfOk, IsTrue};
+ghost use Rattle.std.specs.Prelude.{◌≡◌, IfOk, IsTrue};
 ghost use Rattle.std.specs.List.Sorted.{IsStrictlySortedBy};
 ghost use Rattle.std.specs.Ordering.{nat_cmp};
 ghost use Rattle.log_replay.specs.Numbers.{is_in, newest_of};
@@ -41,9 +41,3 @@ pub fn check_numbers(sorted: &[u64]) -> Result<u64, NumberFault>
         _ => Ok(next - 1),
     }
 }
-
-/// A law: the newest version, or the fault, is told by the members of a list alone, whatever their
-/// order and how often they stand there.
-pub fn members_decide(first: &[u64], second: &[u64])
-    ensures { ((n : ℕ) → is_in n first.now ≡ is_in n second.now) → newest_of first.now ≡ newest_of second.now }
-{}

@@ -2,7 +2,7 @@
 ghost use Rattle.std.specs.Prelude.{IfOk};
 ghost use Rattle.log_replay.specs.Live.{AreNumbered};
 
-use crate::{Commit, Commits, NumberFault, ReplayFault, check_numbers, live_paths, replay};
+use crate::{Commits, NumberFault, ReplayFault, check_numbers, live_paths, push_commit, replay};
 use delta_actions::{Action, Actions, AddAction, RemoveAction, read_commit};
 use dm_types::{Text, TextList};
 use std::alloc::{AllocError, Global};
@@ -24,11 +24,9 @@ fn log_of(alloc: Global, texts: &[&str]) -> Result<Commits, Fail>
     ensures { IfOk result (AreNumbered 0) }
 {
     let mut commits = Commits::new(alloc);
-    let mut version = 0;
     for text in texts {
         let actions = read_commit(alloc, text.as_bytes())?;
-        commits.push(Commit { version, actions })?;
-        version += 1;
+        push_commit(&mut commits, actions)?;
     }
     Ok(commits)
 }
@@ -194,9 +192,9 @@ fn random_log(alloc: Global, seed: u64) -> Result<Commits, AllocError>
 {
     let mut number = seed;
     let mut commits = Commits::new(alloc);
-    for version in 0..5 {
+    for _ in 0..5 {
         let (actions, last) = random_actions(alloc, number)?;
-        commits.push(Commit { version, actions })?;
+        push_commit(&mut commits, actions)?;
         number = last;
     }
     Ok(commits)

@@ -10,9 +10,9 @@ use Rattle.dm_types.specs.declared.refusal.Stop.TheVariants as stop
 use Rattle.delta_actions.specs.declared.action.Action.{Action}
 use Rattle.delta_actions.specs.Meaning.{commit_of}
 use Rattle.log_replay.specs.declared.commits.Commit.{Commit}
-use Rattle.log_replay.specs.Numbers.{is_in, newest_of}
-use Rattle.log_replay.proofs.Counting.{newest-same}
-use Rattle.script_run.specs.Log.{Log, log_of, commit_path, good_lines, commit_at, commits_below, commits_of, of_numbers, numbered}
+use Rattle.log_replay.specs.Live.{numbered}
+use Rattle.log_replay.specs.Numbers.{is_in, newest_of, MembersDecide}
+use Rattle.script_run.specs.Log.{Log, log_of, commit_path, good_lines, commit_at, commits_below, commits_of, of_numbers}
 use Rattle.script_run.specs.Listed.{FindsNewest}
 use Rattle.script_run.specs.Tells.{Tells}
 use Rattle.script_run.proofs.Listed.{log-lookup, AreVersions}
@@ -88,20 +88,20 @@ reading_stops told before table n newest commits e answer is kept within so_far 
 
 -- the whole log
 
-refused_told : (told : Option Files) (table ns : List ℕ) (e : Stop) → AreVersions table told ns → FindsNewest ns (Err e) → Tells {A = List Commit} told (λ files. commits_of (log_of table files)) (Err e)
+refused_told : MembersDecide → (told : Option Files) (table ns : List ℕ) (e : Stop) → AreVersions table told ns → FindsNewest ns (Err e) → Tells {A = List Commit} told (λ files. commits_of (log_of table files)) (Err e)
 unfolding commits_of
-refused_told told table ns stop.Store listed newest = tt
-refused_told told table ns stop.Memory listed newest = tt
-refused_told None table ns (stop.Refused (refused.Table r)) listed newest = tt
-refused_told (Some files) table ns (stop.Refused (refused.Table r)) listed newest = rw (← newest-same ns (entries.keys_of (log_of table files)) listed, newest) refl
+refused_told same told table ns stop.Store listed newest = tt
+refused_told same told table ns stop.Memory listed newest = tt
+refused_told same None table ns (stop.Refused (refused.Table r)) listed newest = tt
+refused_told same (Some files) table ns (stop.Refused (refused.Table r)) listed newest = rw (← same ns (entries.keys_of (log_of table files)) listed, newest) refl
 
-pub log_refused : (told : Option Files) (table ns : List ℕ) (e : Stop) (answer : Result (List Commit) Stop) → answer ≡ Err e → AreVersions table told ns → FindsNewest ns (Err e)
+pub log_refused : MembersDecide → (told : Option Files) (table ns : List ℕ) (e : Stop) (answer : Result (List Commit) Stop) → answer ≡ Err e → AreVersions table told ns → FindsNewest ns (Err e)
     → Tells told (λ files. commits_of (log_of table files)) answer
-log_refused told table ns e answer is listed newest = subst (λ (x : Result (List Commit) Stop). Tells told (λ files. commits_of (log_of table files)) x) (sym is) (refused_told told table ns e listed newest)
+log_refused same told table ns e answer is listed newest = subst (λ (x : Result (List Commit) Stop). Tells told (λ files. commits_of (log_of table files)) x) (sym is) (refused_told same told table ns e listed newest)
 
-whole : (log : Log) (ns : List ℕ) (newest : ℕ) → ((n : ℕ) → is_in n ns ≡ is_in n (entries.keys_of log)) → of_numbers (newest_of ns) ≡ Ok newest → commits_of log ≡ commits_below log (newest + 1)
+whole : MembersDecide → (log : Log) (ns : List ℕ) (newest : ℕ) → ((n : ℕ) → is_in n ns ≡ is_in n (entries.keys_of log)) → of_numbers (newest_of ns) ≡ Ok newest → commits_of log ≡ commits_below log (newest + 1)
 unfolding commits_of
-whole log ns newest same found = rw (← newest-same ns (entries.keys_of log) same, found) refl
+whole same log ns newest listed found = rw (← same ns (entries.keys_of log) listed, found) refl
 
 told_alike : {A : Type 0} (told : Option Files) (first second : Files → Result A TableRefusal) (answer : Result A Stop) → WhereTold told (λ files. second files ≡ first files)
     → Tells told first answer → Tells told second answer
@@ -114,13 +114,13 @@ told_alike (Some files) first second (Err (stop.Refused (refused.Table r))) same
 told_alike (Some files) first second (Err stop.Store) same here = tt
 told_alike (Some files) first second (Err stop.Memory) same here = tt
 
-whole_told : (told : Option Files) (table ns : List ℕ) (newest : ℕ) → AreVersions table told ns → of_numbers (newest_of ns) ≡ Ok newest
+whole_told : MembersDecide → (told : Option Files) (table ns : List ℕ) (newest : ℕ) → AreVersions table told ns → of_numbers (newest_of ns) ≡ Ok newest
     → WhereTold told (λ files. commits_of (log_of table files) ≡ commits_below (log_of table files) (newest + 1))
-whole_told None table ns newest listed found = tt
-whole_told (Some files) table ns newest listed found = whole (log_of table files) ns newest listed found
+whole_told same None table ns newest listed found = tt
+whole_told same (Some files) table ns newest listed found = whole same (log_of table files) ns newest listed found
 
-pub log_read : (told before : Option Files) (table ns : List ℕ) (newest : ℕ) (answer : Result (List Commit) Stop) → before ≡ told → AreVersions table told ns → of_numbers (newest_of ns) ≡ Ok newest
+pub log_read : MembersDecide → (told before : Option Files) (table ns : List ℕ) (newest : ℕ) (answer : Result (List Commit) Stop) → before ≡ told → AreVersions table told ns → of_numbers (newest_of ns) ≡ Ok newest
     → Tells before (λ files. commits_below (log_of table files) (newest + 1)) answer → Tells told (λ files. commits_of (log_of table files)) answer
-log_read told before table ns newest answer kept listed found read =
-    told_alike told (λ files. commits_below (log_of table files) (newest + 1)) (λ files. commits_of (log_of table files)) answer (whole_told told table ns newest listed found)
+log_read same told before table ns newest answer kept listed found read =
+    told_alike told (λ files. commits_below (log_of table files) (newest + 1)) (λ files. commits_of (log_of table files)) answer (whole_told same told table ns newest listed found)
     (subst (λ (o : Option Files). Tells o (λ files. commits_below (log_of table files) (newest + 1)) answer) kept read)

@@ -10,6 +10,7 @@ use Rattle.dm_types.specs.declared.refusal.TableRefusal.TheVariants as refusal
 use Rattle.delta_actions.specs.declared.action.Action.{Action}
 use Rattle.delta_actions.specs.Meaning.{commit_of}
 use Rattle.log_replay.specs.Numbers.{newest_of}
+use Rattle.log_replay.specs.Live.{numbered}
 use Rattle.log_replay.specs.declared.commits.Commit.{Commit}
 use Rattle.log_replay.specs.declared.numbers.NumberFault.{NumberFault}
 use Rattle.log_replay.specs.declared.numbers.NumberFault.TheVariants as fault
@@ -77,9 +78,6 @@ actions_in version (Some bytes) = good_lines version (commit_of bytes)
 -- the actions of a version
 abbrev pub commit_at : Log → ℕ → Result (List Action) TableRefusal
 commit_at log version = actions_in version (entries.lookup (λ n. n == version) log)
-
-abbrev pub numbered : ℕ → List Action → Commit
-numbered version actions = record { version = version; actions = actions }
 
 -- the commit of each version below the bound
 unfoldable pub commits_below : Log → ℕ → Result (List Commit) TableRefusal

@@ -16,7 +16,7 @@ ghost use Rattle.script_run.specs.Tells.{Tells};
 use delta_actions::{ActionFault, Actions, read_commit};
 use dm_store::{ReadFault, Store};
 use dm_types::{CountList, Refused, Stop, TableRefusal, Text};
-use log_replay::{Commit, Commits, NumberFault, check_numbers};
+use log_replay::{Commits, NumberFault, check_numbers, members_decide, push_commit};
 use std::alloc::{AllocError, Global};
 use std::collections::BTreeSet;
 
@@ -33,6 +33,7 @@ pub(crate) fn load_commits<S: Store>(
     ensures taken { S.taken store.new ≡ S.taken store.old }
 {
     let versions = list_versions(alloc, store, table)?;
+    members_decide();
     let newest = newest_version(alloc, &versions)?;
     read_commits(alloc, store, table, newest)
 }
@@ -108,7 +109,7 @@ fn read_commits<S: Store>(
     let mut commits = Commits::new(alloc);
     for version in 0..newest + 1 {
         let actions = read_commit_file(alloc, store, table, version)?;
-        commits.push(Commit { version, actions })?;
+        push_commit(&mut commits, actions)?;
     }
     Ok(commits)
 }

@@ -1,5 +1,5 @@
-use Rattle.std.proofs.Common.{◌≡◌}
-use Rattle.log_replay.proofs.Numbered.{AreCounted}
+use Rattle.std.proofs.Common.{◌≡◌, length}
+use Rattle.log_replay.specs.Live.{AreNumbered}
 use Rattle.script_run.proofs.Reading.{AreRead}
 use Rattle.script_run.proofs.log.read_commits.Given as goal
 
@@ -8,6 +8,7 @@ invariant-loop-version g l = record {
   files : g.S.Store.files l.store ≡ g.S.Store.files l.fn.store;
   faults : g.S.Store.faults l.store ≡ g.S.Store.faults l.fn.store;
   taken : g.S.Store.taken l.store ≡ g.S.Store.taken l.fn.store;
-  counted : AreCounted l.commits l.version;
+  count : length l.commits ≡ l.version;
+  numbers : AreNumbered 0 l.commits;
   read : AreRead l.table l.version l.commits (g.S.Store.files l.fn.store);
 }
