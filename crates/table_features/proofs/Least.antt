@@ -24,7 +24,7 @@ before_cases x y z Greater here less apart =
     let turned : slice_cmp nat_cmp y z ≡ Less = nat_list_cmp_total.antisymm y z ∙ rw here refl in
     nat_list_cmp_total.trans x y z less turned
 
-before_other : (x y z : List ℕ) → is_before x y ≡ true → is_before z y ≡ false → is_before x z ≡ true
+pub before_other : (x y z : List ℕ) → is_before x y ≡ true → is_before z y ≡ false → is_before x z ≡ true
 before_other x y z less apart = rw (before_cases x y z (slice_cmp nat_cmp z y) refl (less_is (slice_cmp nat_cmp x y) less) apart) refl
 
 self_cases : (x : List ℕ) (o : Ordering) → slice_cmp nat_cmp x x ≡ o → is_lt o ≡ false
@@ -32,10 +32,13 @@ self_cases x Less is = let wrong : Less ≡ Greater = sym is ∙ nat_list_cmp_to
 self_cases x Equal is = refl
 self_cases x Greater is = refl
 
-not_before_self : (x : List ℕ) → is_before x x ≡ false
+pub not_before_self : (x : List ℕ) → is_before x x ≡ false
 not_before_self x = self_cases x (slice_cmp nat_cmp x x) refl
 
-apart : (b : Bool) → b ≡ true → b ≡ false → ⊥
+pub not_turned : (x y : List ℕ) → is_before x y ≡ true → is_before y x ≡ false
+not_turned x y less = rw (nat_list_cmp_total.antisymm y x, less_is (slice_cmp nat_cmp x y) less) refl
+
+pub apart : (b : Bool) → b ≡ true → b ≡ false → ⊥
 apart true is other = cc
 apart false is other = cc
 
@@ -70,9 +73,6 @@ least_new knows names (Some here) count found below =
         | inr same ↦ rw same (not_before_self (name_at names count))
       ];
     }
-  where
-    not_turned : (x y : List ℕ) → is_before x y ≡ true → is_before y x ≡ false
-    not_turned x y less = rw (nat_list_cmp_total.antisymm y x, less_is (slice_cmp nat_cmp x y) less) refl
 
 -- it is known, or the least so far stays before it
 pub least_stays : (knows : List ℕ → Bool) (names : List (List ℕ)) (least : Option ℕ) (count : ℕ) → IsLeastOf knows names count least → is_below_least knows names least count ≡ false → IsLeastOf knows names (count + 1) least

@@ -1,5 +1,5 @@
 -- Which protocols may be read and written (PROTOCOL.md, "Table Features").
-use Rattle.std.specs.Prelude.{◌≡◌, ℕ, ◌<◌, ◌≤◌, List, [], Bool, true, false, not, length, get_or, Option, Some, None, Result, Ok, Err, codes, ◌||◌, ◌&&◌}
+use Rattle.std.specs.Prelude.{◌≡◌, ℕ, ◌<◌, ◌≤◌, List, [], ◌∷◌, Bool, true, false, not, length, get_or, Option, Some, None, option_map, Result, Ok, Err, codes, nat_lt, nat_le, ◌==◌, ◌||◌, ◌&&◌, if◌then◌else◌}
 use Rattle.std.specs.Cmp.Lexicographic.{slice_cmp}
 use Rattle.std.specs.Ordering.{nat_cmp, is_lt}
 use Rattle.std.specs.Str.{bytes_eq}
@@ -71,6 +71,42 @@ CanWrite protocol (Err fault.Numbers) = ¬ ((1 ≤ protocol.min_writer_version) 
 CanWrite protocol (Err (fault.Reader index)) = ⊥
 CanWrite protocol (Err (fault.Writer index)) =
     (protocol.min_writer_version ≡ 7) × IsLeastUnknown is_writer_feature protocol.writer_features (length protocol.writer_features) index
+
+-- why a protocol is refused: its version, or a feature by its name
+pub data NamedFault : Type 0 where
+  numbers : NamedFault
+  feature : List ℕ → NamedFault
+
+-- the one that comes first byte by byte
+abbrev pub lesser : List ℕ → Option (List ℕ) → List ℕ
+lesser name None = name
+lesser name (Some other) = if is_before other name then other else name
+
+-- the least by bytes of the names that aren't known, if there is one
+unfoldable pub least_unknown : (List ℕ → Bool) → List (List ℕ) → Option (List ℕ)
+least_unknown knows [] = None
+least_unknown knows (name ∷ names) = if knows name then least_unknown knows names else Some (lesser name (least_unknown knows names))
+
+-- the versions go up to one at which each feature must be known; there the least unknown one is the fault
+unfoldable pub fault_of : (List ℕ → Bool) → ℕ → ℕ → List (List ℕ) → Option NamedFault
+fault_of knows last version names =
+    if version == last then option_map feature (least_unknown knows names)
+    else if nat_le 1 version && nat_lt version last then None else Some numbers
+
+-- why a table of this protocol can't be read, if it can't
+abbrev pub read_fault : ProtocolAction → Option NamedFault
+read_fault protocol = fault_of is_reader_feature 3 protocol.min_reader_version protocol.reader_features
+
+-- why it can't be written, if it can't
+abbrev pub write_fault : ProtocolAction → Option NamedFault
+write_fault protocol = fault_of is_writer_feature 7 protocol.min_writer_version protocol.writer_features
+
+-- the fault of an answer, with the name at the place
+abbrev pub named_fault : ProtocolAction → Result (Unit {0}) FeatureFault → Option NamedFault
+named_fault protocol (Ok _) = None
+named_fault protocol (Err fault.Numbers) = Some numbers
+named_fault protocol (Err (fault.Reader index)) = Some (feature (name_at protocol.reader_features index))
+named_fault protocol (Err (fault.Writer index)) = Some (feature (name_at protocol.writer_features index))
 
 -- the name at a place is unknown, and comes before the least so far
 abbrev pub is_below_least : (List ℕ → Bool) → List (List ℕ) → Option ℕ → ℕ → Bool

@@ -1,5 +1,6 @@
 // Which protocols may be read, and which written.
-ghost use Rattle.table_features.specs.Features.{CanRead, CanWrite};
+ghost use Rattle.std.specs.Prelude.{◌≡◌};
+ghost use Rattle.table_features.specs.Features.{CanRead, CanWrite, named_fault, read_fault, write_fault};
 
 use crate::known::{ReaderFeatures, WriterFeatures, least_unknown};
 use delta_actions::ProtocolAction;
@@ -28,7 +29,8 @@ pub enum FeatureFault {
 /// Whether a table of this protocol may be read: its reader version is 1, 2 or 3, and at 3 each of
 /// its reader features is known. It takes no memory.
 pub fn check_read(protocol: &ProtocolAction) -> Result<(), FeatureFault>
-    ensures { CanRead protocol.now result }
+    ensures answer { CanRead protocol.now result }
+    ensures named { named_fault protocol.now result ≡ read_fault protocol.now }
 {
     match protocol.min_reader_version {
         1 | 2 => Ok(()),
@@ -43,7 +45,8 @@ pub fn check_read(protocol: &ProtocolAction) -> Result<(), FeatureFault>
 /// Whether a table of this protocol may be written: its writer version is 1 to 7, and at 7 each of
 /// its writer features is known. It takes no memory.
 pub fn check_write(protocol: &ProtocolAction) -> Result<(), FeatureFault>
-    ensures { CanWrite protocol.now result }
+    ensures answer { CanWrite protocol.now result }
+    ensures named { named_fault protocol.now result ≡ write_fault protocol.now }
 {
     match protocol.min_writer_version {
         1..=6 => Ok(()),
