@@ -1,0 +1,7 @@
+pub mod Numbers
+pub mod Calendar
+pub mod Moments
+pub mod Reading
+pub mod Printing
+pub mod Ranges
+pub mod Answers

@@ -1,0 +1,33 @@
+-- Which types are well formed, and the ranges of values.
+use Rattle.std.specs.Prelude.{ℕ, ◌^◌, ◌<◌, ◌≤◌, ℤ, pos, neg_ℤ, ◌≤ℤ◌, unsigned_abs, ⊤}
+use Rattle.dm_types.specs.declared.value.DataType.{DataType}
+use Rattle.dm_types.specs.declared.value.DataType.TheVariants as kind
+use Rattle.dm_types.specs.declared.value.Value.{Value}
+use Rattle.dm_types.specs.declared.value.Value.TheVariants as value
+use Rattle.dm_types.specs.Lanes.{IsOf}
+use Rattle.dm_text.specs.Printing.{day_part}
+
+-- a decimal type has a precision from 1 to 38 and a scale from 0 to its precision
+abbrev pub IsWellFormed : DataType → Type 0
+IsWellFormed (kind.Decimal precision scale) = (1 ≤ precision) × (precision ≤ 38) × (scale ≤ precision)
+IsWellFormed k = ⊤
+
+-- a day from 0001-01-01 to 9999-12-31
+abbrev pub IsDay : ℤ → Type 0
+IsDay n = (neg_ℤ (pos 719_162) ≤ℤ n) × (n ≤ℤ pos 2_932_896)
+
+-- what the type says of its values beside their kind
+abbrev pub IsWithin : DataType → Value → Type 0
+IsWithin (kind.Decimal precision scale) (value.Dec d) = unsigned_abs d.unscaled < 10 ^ precision
+IsWithin kind.Date (value.Day n) = IsDay n
+IsWithin kind.Timestamp (value.Micros n) = IsDay (day_part n)
+IsWithin k v = ⊤
+
+-- a value of a type and in its range
+abbrev pub IsInRange : DataType → Value → Type 0
+IsInRange k v = IsWellFormed k × IsOf k v × IsWithin k v
+
+-- the same, or null
+abbrev pub IsNullOrInRange : DataType → Value → Type 0
+IsNullOrInRange k value.Null = ⊤
+IsNullOrInRange k v = IsInRange k v
