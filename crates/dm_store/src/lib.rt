@@ -6,6 +6,7 @@ mod claim_store;
 mod faults;
 mod finds;
 mod laws;
+mod logged_path;
 mod memory_clock;
 mod memory_names;
 mod memory_sink;
@@ -24,6 +25,7 @@ mod traits;
 pub use claim_store::ClaimStore;
 pub use faults::{Failed, ListFault, PutFault, ReadFault, SinkFault};
 pub use laws::lists_once;
+pub use logged_path::{PathFault, decode_path};
 pub use memory_clock::MemoryClock;
 pub use memory_names::MemoryNames;
 pub use memory_sink::MemorySink;
@@ -36,5 +38,7 @@ pub use sure_source::SureSource;
 pub use sure_store::SureStore;
 pub use traits::{Clock, NameSource, Sink, Source, Store};
 
+#[cfg(test)]
+mod path_tests;
 #[cfg(test)]
 mod tests;
