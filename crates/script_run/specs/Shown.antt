@@ -1,25 +1,13 @@
 -- The answer of SHOW FILES: the live files of the newest version, or the first refusal.
-use Rattle.std.specs.Prelude.{ℕ, List, [], ◌∷◌, ◌++◌, Result, Ok, ◌==◌, if◌then◌else◌}
+use Rattle.std.specs.Prelude.{ℕ, List, [], ◌∷◌, ◌++◌, Result, Ok}
 use Rattle.std.specs.List.{flat_map}
 use Rattle.dm_store.specs.Files.{Files}
 use Rattle.dm_types.specs.Order.{in_byte_order}
 use Rattle.dm_types.specs.declared.refusal.TableRefusal.{TableRefusal}
 use Rattle.dm_types.specs.Then.{go}
+use Rattle.dm_text.specs.Printing.{field}
 use Rattle.script_run.specs.Log.{log_of, commits_of}
 use Rattle.log_replay.specs.Live.{live_adds, paths_of}
-
--- a backslash, tab, line feed and carriage return are written `\\`, `\t`, `\n`, `\r`
-abbrev pub escaped : ℕ → List ℕ
-escaped b =
-    if b == 92 then 92 ∷ 92 ∷ []
-    else if b == 9 then 92 ∷ 116 ∷ []
-    else if b == 10 then 92 ∷ 110 ∷ []
-    else if b == 13 then 92 ∷ 114 ∷ []
-    else b ∷ []
-
--- a printed field
-abbrev pub field : List ℕ → List ℕ
-field text = flat_map escaped text
 
 -- a line for each path
 abbrev pub path_lines : List (List ℕ) → List ℕ

@@ -1,12 +1,14 @@
 // The answer of SHOW FILES.
 ghost use Rattle.std.specs.Prelude.{◌≡◌, ◌++◌, ◌∷◌, [], OnOk, IfOk};
+ghost use Rattle.dm_text.specs.Printing.{field};
 ghost use Rattle.dm_store.specs.Causes.{Counts, StopCause};
 ghost use Rattle.script_run.specs.Shown as spec;
 ghost use Rattle.script_run.specs.Tells.{Tells};
 
 use crate::log::load_commits;
 use dm_store::Store;
-use dm_types::{Bytes, Stop, Text, TextList, sort_texts};
+use dm_text::print_field;
+use dm_types::{Bytes, DataType, Stop, Text, TextList, Value, sort_texts};
 use log_replay::live_paths;
 use std::alloc::{AllocError, Global};
 
@@ -33,36 +35,14 @@ fn path_lines(alloc: Global, paths: &TextList) -> Result<Bytes, AllocError>
 {
     let mut text = Bytes::new(alloc);
     for path in paths.as_slice() {
-        print_line(&mut text, path.as_bytes())?;
+        print_line(alloc, &mut text, path.clone()?)?;
     }
     Ok(text)
 }
 
-fn print_line(out: &mut Bytes, field: &[u8]) -> Result<(), AllocError>
-    ensures { OnOk result (out.new ≡ out.old ++ spec.field field.now ++ 10 ∷ []) }
+fn print_line(alloc: Global, out: &mut Bytes, path: Text) -> Result<(), AllocError>
+    ensures { OnOk result (out.new ≡ out.old ++ field path ++ 10 ∷ []) }
 {
-    print_field(out, field)?;
+    print_field(alloc, &Value::Text(path), &DataType::Str, out)?;
     out.push(b'\n')
-}
-
-// A field, with what would part fields or lines escaped.
-fn print_field(out: &mut Bytes, field: &[u8]) -> Result<(), AllocError>
-    ensures { OnOk result (out.new ≡ out.old ++ spec.field field.now) }
-{
-    for byte in field {
-        print_byte(out, *byte)?;
-    }
-    Ok(())
-}
-
-fn print_byte(out: &mut Bytes, byte: u8) -> Result<(), AllocError>
-    ensures { OnOk result (out.new ≡ out.old ++ spec.escaped byte) }
-{
-    match byte {
-        b'\\' => out.extend_from_slice(b"\\\\"),
-        b'\t' => out.extend_from_slice(b"\\t"),
-        b'\n' => out.extend_from_slice(b"\\n"),
-        b'\r' => out.extend_from_slice(b"\\r"),
-        _ => out.push(byte),
-    }
 }
