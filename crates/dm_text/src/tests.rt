@@ -2,7 +2,7 @@
 ghost use Rattle.dm_text.specs.Ranges.{IsWellFormed, IsNullOrInRange};
 
 use crate::{print_field, print_value, read_value};
-use dm_types::{Bytes, DataType, Decimal, Text, Value, same};
+use dm_types::{Bytes, DataType, Text, Value, same};
 use std::alloc::Global;
 use std::test::Fail;
 
@@ -304,15 +304,17 @@ fn padded(alloc: Global) -> Result<Text, Fail> {
     Ok(text)
 }
 
+fn print_moment(alloc: Global, out: &mut Bytes) -> Result<(), Fail> {
+    let value = Value::Micros(1_709_210_096_700_000);
+    print_field(alloc, &value, &DataType::Timestamp, out)?;
+    Ok(())
+}
+
 /// Prints fields, so many.
 fn print_many(alloc: Global, count: usize) -> Result<Bytes, Fail> {
-    let value = Value::Dec(Decimal {
-        unscaled: -12_345,
-        scale: 2,
-    });
     let mut out = Bytes::new(alloc);
     for _ in 0..count {
-        print_field(alloc, &value, &MONEY, &mut out)?;
+        print_moment(alloc, &mut out)?;
     }
     Ok(out)
 }
@@ -323,6 +325,6 @@ fn long_texts_and_many_fields(rt: HostRuntime) -> Result<(), Fail> {
     let text = padded(alloc)?;
     assert!(rt; reads(alloc, &DataType::Byte, text.as_str(), &Value::Int(42)));
     assert!(rt; reads_as(alloc, &MONEY, text.as_str(), "42.00")?);
-    assert_eq!(rt; print_many(alloc, 1_000_000)?.len(), 7_000_000);
+    assert_eq!(rt; print_many(alloc, 1_000_000)?.len(), 26_000_000);
     Ok(())
 }
