@@ -5,3 +5,5 @@ pub mod Days
 pub mod Clocks
 pub mod Places
 pub mod InRange
+pub mod Spelled
+pub mod Back

@@ -1,5 +1,6 @@
 -- Which types are well formed, and the ranges of values.
 use Rattle.std.specs.Prelude.{ℕ, ◌^◌, ◌<◌, ◌≤◌, ℤ, pos, neg_ℤ, ◌≤ℤ◌, unsigned_abs, ⊤}
+use Rattle.std.specs.Str.{IsUtf8}
 use Rattle.dm_types.specs.declared.value.DataType.{DataType}
 use Rattle.dm_types.specs.declared.value.DataType.TheVariants as kind
 use Rattle.dm_types.specs.declared.value.Value.{Value}
@@ -31,3 +32,14 @@ IsInRange k v = IsWellFormed k × IsOf k v × IsWithin k v
 abbrev pub IsNullOrInRange : DataType → Value → Type 0
 IsNullOrInRange k value.Null = ⊤
 IsNullOrInRange k v = IsInRange k v
+
+-- the day of a date or a moment, and day 0 of other values
+abbrev pub the_day : Value → ℤ
+the_day (value.Day n) = n
+the_day (value.Micros n) = day_part n
+the_day v = pos 0
+
+-- texts are UTF-8
+abbrev pub IsText : Value → Type 0
+IsText (value.Text t) = IsUtf8 t
+IsText v = ⊤

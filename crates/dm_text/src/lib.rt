@@ -6,12 +6,14 @@ mod decimals;
 mod digits;
 mod fault;
 mod fields;
+mod laws;
 mod moments;
 mod printing;
 mod reading;
 
 pub use fault::TextFault;
 pub use fields::print_field;
+pub use laws::printed_is_read;
 pub use printing::print_value;
 pub use reading::read_value;
 

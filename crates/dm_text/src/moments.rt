@@ -12,7 +12,7 @@ use dm_types::Bytes;
 use std::alloc::AllocError;
 
 /// The microseconds of a day.
-const DAY: i64 = 86_400_000_000;
+pub(crate) const DAY: i64 = 86_400_000_000;
 
 /// The moment of a date and a time of the day, in microseconds from 1970-01-01 00:00.
 #[tactic(auto, using(std::proofs::lemmas::Bool::Decides::nat_tests), unfolding(crate::specs::Moments::timestamp))]

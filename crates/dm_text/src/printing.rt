@@ -36,9 +36,9 @@ pub fn print_value(
 pub(crate) fn value_text(
     alloc: Global,
     value: &Value,
-    _kind: &DataType,
+    kind: &DataType,
 ) -> Result<Bytes, AllocError>
-    requires { IsInRange _kind.now value.now }
+    requires { IsInRange kind.now value.now }
     ensures { IfOk result (λ text. text ≡ spec.printed value.now) }
 {
     let mut text = Bytes::new(alloc);

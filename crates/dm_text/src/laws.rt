@@ -1,0 +1,39 @@
+// What is printed of a value, and what is read of it.
+ghost use Rattle.std.specs.Prelude.{◌≡◌, ◌≢◌, Some};
+ghost use Rattle.dm_text.specs.Printing.{day_part, printed};
+ghost use Rattle.dm_text.specs.Ranges.{IsDay, IsInRange, IsText, the_day};
+ghost use Rattle.dm_text.specs.Reading.{text_value};
+ghost use Rattle.dm_types.specs.declared.value.DataType.TheVariants.{Binary};
+
+use crate::calendar::date_of;
+use crate::moments::DAY;
+use dm_types::{DataType, Value};
+
+/// A law: what is printed of a value is read as it, for the types that are read: all but binary.
+pub fn printed_is_read(value: &Value, kind: &DataType)
+    requires { IsInRange kind.now value.now }
+    ensures { kind.now ≢ Binary → text_value kind.now (printed value.now) ≡ Some value.now }
+{
+    text_is_utf8(value);
+    let _ = date_of(day_of(value, kind));
+}
+
+fn text_is_utf8(value: &Value)
+    ensures { IsText value.now }
+{
+    if let Value::Text(text) = value {
+        let _ = text.as_bytes();
+    }
+}
+
+fn day_of(value: &Value, kind: &DataType) -> i64
+    requires { IsInRange kind.now value.now }
+    ensures value { result ≡ the_day value.now }
+    ensures range { IsDay result }
+{
+    match value {
+        Value::Day(day) => i64::from(*day),
+        Value::Micros(moment) => moment.div_euclid(DAY),
+        _ => 0,
+    }
+}
