@@ -1,26 +1,23 @@
 -- What is printed of a value is read as it.
-use Rattle.std.proofs.Common.{◌≡◌, ◌≢◌, ℕ, zero, suc, ◌+◌, ◌-◌, ◌*◌, ◌/◌, ◌%◌, ◌^◌, ◌<◌, ◌≤◌, List, [], ◌∷◌, ◌++◌, length, take, drop, Bool, true, false, ◌&&◌, Option, Some, None, ℤ, pos, negsuc, ◌+ℤ◌, ◌*ℤ◌, unsigned_abs, refl, sym, ap, ◌∙◌, arith}
-use Rattle.std.specs.Prelude.{FitsSigned, codes}
-use Rattle.std.specs.Int.{w8, w16, w32, w64, int_div_euclid, int_rem_euclid}
-use Rattle.std.specs.Option.{option_and_then, option_map}
-use Rattle.std.specs.Str.{is_utf8, IsUtf8}
-use Rattle.std.proofs.lemmas.Bool.{lt-ltb, le-leb, leb-true}
+use Rattle.std.proofs.Common.{◌≡◌, ◌≢◌, ℕ, ◌+◌, ◌*◌, ◌/◌, ◌%◌, ◌<◌, ◌≤◌, List, ◌∷◌, ◌++◌, take, drop, Bool, true, false, Some, ℤ, pos, negsuc, ◌+ℤ◌, ◌*ℤ◌, refl, sym, ap, ◌∙◌, arith}
+use Rattle.std.specs.Prelude.{FitsSigned}
+use Rattle.std.specs.Int.{w8, w16, w32, w64}
+use Rattle.std.specs.Option.{option_map}
+use Rattle.std.proofs.lemmas.Bool.{lt-ltb}
 use Rattle.std.proofs.lemmas.Str.{is_utf8-from_IsUtf8}
 use Rattle.std.proofs.lemmas.Bool.Decides.{nat_tests}
-use Rattle.std.proofs.lemmas.Int.{ints}
-use Rattle.jiff_core.specs.Calendar.{days_in_month, days_from_civil}
 use Rattle.jiff_core.proofs.SignedLemmas.{signed_arith}
 use Rattle.jiff_core.proofs.CalendarLemmas.{days_in_month_bounds}
-use Rattle.dm_types.specs.Lanes.{IsOf, is_within}
+use Rattle.dm_types.specs.Lanes.{is_within}
 use Rattle.dm_types.specs.declared.value.DataType.{DataType}
 use Rattle.dm_types.specs.declared.value.DataType.TheVariants as kind
 use Rattle.dm_types.specs.declared.value.Value.{Value}
 use Rattle.dm_types.specs.declared.value.Value.TheVariants as value
-use Rattle.dm_text.specs.Numbers.{numeral, below, whole, decimal_number}
-use Rattle.dm_text.specs.Calendar.{is_calendar_date, calendar_day, date, number_in, Parts}
-use Rattle.dm_text.specs.Moments.{clock, two_below, behind_second, moment, timestamp}
+use Rattle.dm_text.specs.Numbers.{numeral, decimal_number}
+use Rattle.dm_text.specs.Calendar.{calendar_day, date, Parts}
+use Rattle.dm_text.specs.Moments.{clock, behind_second, moment, timestamp}
 use Rattle.dm_text.specs.Reading.{truth, text_value}
-use Rattle.dm_text.specs.Ranges.{IsWellFormed, IsDay, IsWithin, IsInRange, IsText, the_day}
+use Rattle.dm_text.specs.Ranges.{IsInRange, IsText, the_day}
 use Rattle.dm_text.specs.Printing.{places, decimal_text, printed, date_text, parts_text, clock_text, day_part, clock_part}
 use Rattle.dm_text.proofs.Spelled.{whole_read, decimal_back, numeral_places, fraction_read}
 use Rattle.dm_text.proofs.Days.{date_text_is}
@@ -70,9 +67,14 @@ clock_read t small =
     let h : t / 3_600_000_000 < 24 = omega arith in
     let m : t / 60_000_000 % 60 < 60 = omega arith in
     let s : t / 1_000_000 % 60 < 60 = omega arith in
-    rw (two (t / 3_600_000_000) (omega arith), lt-ltb (t / 3_600_000_000) 24 h,
-      two (t / 60_000_000 % 60) (omega arith), lt-ltb (t / 60_000_000 % 60) 60 m,
-      two (t / 1_000_000 % 60) (omega arith), lt-ltb (t / 1_000_000 % 60) 60 s)
+    rw (
+      two (t / 3_600_000_000) (omega arith),
+      lt-ltb (t / 3_600_000_000) 24 h,
+      two (t / 60_000_000 % 60) (omega arith),
+      lt-ltb (t / 60_000_000 % 60) 60 m,
+      two (t / 1_000_000 % 60) (omega arith),
+      lt-ltb (t / 1_000_000 % 60) 60 s,
+    )
     (ap Some (omega arith))
 
 behind_read : (t : ℕ) → behind_second (drop 8 (clock_text t)) ≡ Some (t % 1_000_000)

@@ -1,5 +1,5 @@
 -- The year, month and day of a day number are those of the date that has it.
-use Rattle.std.proofs.Common.{◌≡◌, ℕ, zero, suc, ◌+◌, ◌-◌, ◌<◌, ◌≤◌, Bool, true, false, ℤ, pos, negsuc, neg_ℤ, ◌+ℤ◌, ◌-ℤ◌, ◌<ℤ◌, ◌≤ℤ◌, unsigned_abs, refl, sym, ap, ◌∙◌, arith, inl, inr}
+use Rattle.std.proofs.Common.{◌≡◌, ℕ, zero, suc, ◌-◌, ◌<◌, ◌≤◌, Bool, true, false, ℤ, pos, negsuc, ◌-ℤ◌, ◌<ℤ◌, ◌≤ℤ◌, unsigned_abs, refl, ap, ◌∙◌, arith, inl, inr}
 use Rattle.std.proofs.lemmas.Int.{ints, by_lt_z}
 use Rattle.std.proofs.lemmas.Bool.{cases_lt, le-leb}
 use Rattle.jiff_core.specs.declared.civil.date.Date.{Date}
@@ -11,8 +11,7 @@ use Rattle.jiff_core.proofs.CalendarLemmas.{days_from_civil-day_count, day_count
 use Rattle.jiff_core.proofs.DateLemmas.{civil}
 use Rattle.dm_text.specs.Calendar.{greatest, is_at_or_before, year_of, month_in, month_of, day_in, day_of, is_calendar_date, Parts}
 use Rattle.dm_text.specs.Ranges.{IsDay}
-use Rattle.dm_text.specs.Printing.{places, date_text, parts_text}
-use Rattle.std.proofs.Common.{◌∷◌, ◌++◌}
+use Rattle.dm_text.specs.Printing.{date_text, parts_text}
 
 greatest_is : (test : ℕ → Bool) (most k : ℕ) → 1 ≤ k → k ≤ most → test k ≡ true → ((j : ℕ) → k < j → j ≤ most → test j ≡ false) → greatest test most ≡ k
 unfolding greatest

@@ -1,18 +1,18 @@
 -- What is read of a text is in its type's range.
-use Rattle.std.proofs.Common.{◌≡◌, ℕ, zero, suc, ◌+◌, ◌-◌, ◌*◌, ◌^◌, ◌<◌, ◌≤◌, List, [], ◌∷◌, length, take, drop, Bool, true, false, cond, ◌&&◌, Option, Some, None, Result, Ok, Err, ℤ, pos, negsuc, neg_ℤ, ◌+ℤ◌, ◌*ℤ◌, ◌≤ℤ◌, unsigned_abs, refl, sym, ap, subst, ◌∙◌, arith, inl, inr}
+use Rattle.std.proofs.Common.{◌≡◌, ℕ, zero, suc, ◌+◌, ◌-◌, ◌*◌, ◌^◌, ◌<◌, ◌≤◌, List, [], ◌∷◌, length, take, drop, Bool, true, false, cond, ◌&&◌, Option, Some, None, Result, Ok, Err, ℤ, pos, negsuc, ◌+ℤ◌, ◌*ℤ◌, unsigned_abs, refl, sym, arith, inl, inr}
 use Rattle.std.specs.Prelude.{◌==◌, slice_index, slice_range, FitsSigned, position, IfOk}
 use Rattle.std.specs.Int.{w8, w16, w32, w64, int_div_euclid}
 use Rattle.std.specs.Option.{option_and_then, option_map}
 use Rattle.std.specs.Str.{is_utf8}
 use Rattle.std.specs.Str.Parse.{starts_with_minus, without_leading_sign}
-use Rattle.std.proofs.lemmas.Bool.{and_parts, leb-true, ltb-true, cases_lt}
+use Rattle.std.proofs.lemmas.Bool.{and_parts, leb-true, cases_lt}
 use Rattle.std.proofs.lemmas.Bool.Decides.{nat_tests}
 use Rattle.std.proofs.Common.{rules}
 use Rattle.std.proofs.Math.Dec.{leb}
-use Rattle.jiff_core.specs.Calendar.{day_count, days_from_civil, days_in_month, IsCivilDate}
+use Rattle.jiff_core.specs.Calendar.{days_from_civil, days_in_month, IsCivilDate}
 use Rattle.jiff_core.proofs.SignedLemmas.{signed_arith}
 use Rattle.jiff_core.proofs.CalendarLemmas.{days_from_civil-day_count, day_count-lt_year, day_count_bounds}
-use Rattle.dm_types.specs.Lanes.{IsOf, is_within, kept_within}
+use Rattle.dm_types.specs.Lanes.{is_within, kept_within}
 use Rattle.dm_types.specs.declared.value.DataType.{DataType}
 use Rattle.dm_types.specs.declared.value.DataType.TheVariants as kind
 use Rattle.dm_types.specs.declared.value.Value.{Value}
@@ -22,13 +22,12 @@ use Rattle.dm_text.specs.declared.fault.TextFault.{TextFault}
 use Rattle.dm_text.specs.declared.fault.TextFault.TheVariants as fault
 use Rattle.dm_text.specs.Numbers.{numeral, numeral_below, below, with_sign, signed, whole, front, fraction, parted, fixed_point, decimal_number}
 use Rattle.dm_text.specs.Calendar.{is_calendar_date, calendar_day, date, number_in}
-use Rattle.dm_text.specs.Moments.{clock, two_below, behind_second, moment, timestamp, ends_in_z}
+use Rattle.dm_text.specs.Moments.{clock, behind_second, moment, timestamp, ends_in_z}
 use Rattle.dm_text.specs.Reading.{truth, text_value}
-use Rattle.dm_text.specs.Ranges.{IsWellFormed, IsDay, IsWithin, IsInRange}
+use Rattle.dm_text.specs.Ranges.{IsWellFormed, IsDay, IsInRange}
 use Rattle.dm_text.specs.Printing.{day_part}
-use Rattle.dm_text.proofs.Powers.{power_some, power_le, scaled}
+use Rattle.dm_text.proofs.Powers.{power_some, scaled}
 use Rattle.dm_text.proofs.Points.{fraction_bound}
-use Rattle.dm_text.proofs.Numerals.{numeral_bound}
 use Rattle.dm_text.proofs.Days.{first_count, starts}
 use Rattle.std.proofs.lemmas.Int.{ints}
 

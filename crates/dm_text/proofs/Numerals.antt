@@ -1,14 +1,13 @@
 -- Numbers that digits write, and their bounds.
-use Rattle.std.proofs.Common.{◌≡◌, ℕ, zero, suc, ◌+◌, ◌*◌, ◌^◌, ◌<◌, ◌≤◌, List, [], ◌∷◌, length, Bool, true, false, cond, ◌&&◌, Option, Some, None, Result, Ok, Err, ℤ, pos, negsuc, neg_ℤ, refl, sym, ap, ◌∙◌, arith, inl, inr}
+use Rattle.std.proofs.Common.{◌≡◌, ℕ, ◌^◌, ◌<◌, ◌≤◌, List, length, Bool, true, false, cond, ◌&&◌, Option, Some, None, Result, Ok, Err, refl, arith, inl, inr}
 use Rattle.std.specs.Option.{option_and_then}
 use Rattle.std.specs.Result.{result_ok, OkIff}
 use Rattle.std.specs.Str.{all_ascii_digits}
-use Rattle.std.specs.Str.Parse.{digits_value, ParsesUnsigned, starts_with_minus, without_leading_sign}
-use Rattle.std.proofs.lemmas.Bool.{and_right, and_parts, lt-ltb, le-ltb, le-leb, cases_lt, ltb-false}
+use Rattle.std.specs.Str.Parse.{digits_value, ParsesUnsigned}
+use Rattle.std.proofs.lemmas.Bool.{and_parts, lt-ltb, le-ltb, cases_lt}
 use Rattle.std.proofs.lemmas.Str.Parse.{IsNumeralModel, numerals_by_value, tells_all_ascii_digits, parse_digits, digits_value_short}
 use Rattle.std.proofs.lemmas.Bool.Decides.{nat_tests}
-use Rattle.std.proofs.Math.Nat.{one-le-pow}
-use Rattle.std.proofs.Math.Dec.{ltb, leb}
+use Rattle.std.proofs.Math.Dec.{ltb}
 use Rattle.std.specs.Str.{IsUtf8}
 use Rattle.std.proofs.lemmas.Str.{IsUtf8-from_ascii}
 use Rattle.std.proofs.lemmas.Fmt.{IsAscii-from_digits}
@@ -16,9 +15,6 @@ use Rattle.dm_text.specs.Numbers.{numeral, numeral_below, below}
 
 pub own : IsNumeralModel (λ ds. all_ascii_digits ds ≡ true) (digits_value 10)
 own = numerals_by_value _ tells_all_ascii_digits
-
-pub not_digits : (text : List ℕ) (bound : ℕ) → all_ascii_digits text ≡ false → numeral_below bound text ≡ None
-not_digits text bound none = rw (and_right (ltb 0 (length text)) (all_ascii_digits text) none) refl
 
 ok_of : {E : Type 0} (text : List ℕ) (r : Result ℕ E) → all_ascii_digits text ≡ true → OkIff r ((0 < length text) × (digits_value 10 text < 2 ^ 128)) (digits_value 10 text) → result_ok r ≡ numeral_below (2 ^ 128) text
 ok_of text (Ok x) all h = rw (h.1, all, lt-ltb 0 (length text) h.0.0, lt-ltb (digits_value 10 text) (2 ^ 128) h.0.1) refl

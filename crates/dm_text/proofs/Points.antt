@@ -18,17 +18,6 @@ none_of (Some m) small less is =
 pub front_none : (room places : ℕ) (text : List ℕ) → room ≤ 38 → None ≡ numeral_below (2 ^ 128) text → None ≡ front room places text
 front_none room places text small is = rw (← none_of (numeral text) (10 ^ room) (omega (arith, power_le room 38 small)) is) refl
 
-some_of : (o : Option ℕ) (n : ℕ) → Some n ≡ option_and_then (below (2 ^ 128)) o → o ≡ Some n
-some_of None n is = absurd cc
-some_of (Some m) n is =
-    elim (cases_lt m (2 ^ 128)) as (λ _. Some m ≡ Some n) [
-      | inl small ↦ sym (rw (lt-ltb m (2 ^ 128) small) at is)
-      | inr large ↦ absurd (let never : Some n ≡ None = rw (le-ltb m (2 ^ 128) large) at is in cc)
-    ]
-
-pub numeral_some : (text : List ℕ) (n : ℕ) → Some n ≡ numeral_below (2 ^ 128) text → numeral text ≡ Some n
-numeral_some text n is = some_of (numeral text) n is
-
 -- the digits of a fraction, in units of the last place
 pub fraction_bound : (text : List ℕ) (places n : ℕ) → length text ≤ places → Some n ≡ numeral text → n * 10 ^ (places - length text) + 1 ≤ 10 ^ places
 fraction_bound text places n few is =

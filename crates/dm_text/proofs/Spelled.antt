@@ -1,22 +1,22 @@
 -- What printed digits, signs and points are read as.
-use Rattle.std.proofs.Common.{◌≡◌, ℕ, zero, suc, ◌+◌, ◌-◌, ◌*◌, ◌/◌, ◌%◌, ◌^◌, ◌<◌, ◌≤◌, List, [], ◌∷◌, ◌++◌, length, take, drop, get_or, Bool, true, false, not, cond, ◌&&◌, Option, Some, None, ℤ, pos, negsuc, neg_ℤ, unsigned_abs, refl, sym, ap, ◌∙◌, arith, length-append}
+use Rattle.std.proofs.Common.{◌≡◌, ℕ, zero, suc, ◌+◌, ◌-◌, ◌*◌, ◌/◌, ◌%◌, ◌^◌, ◌<◌, ◌≤◌, List, [], ◌∷◌, ◌++◌, length, take, drop, get_or, true, false, not, Option, Some, None, ℤ, pos, negsuc, neg_ℤ, unsigned_abs, refl, sym, ap, ◌∙◌, arith, length-append}
 use Rattle.std.specs.Prelude.{◌==◌, position}
-use Rattle.std.specs.Option.{option_and_then, option_map}
-use Rattle.std.specs.Fmt.{decimal, signed_decimal, sign_text}
+use Rattle.std.specs.Option.{option_map}
+use Rattle.std.specs.Fmt.{decimal, signed_decimal}
 use Rattle.std.specs.Char.{digit_value, is_ascii_digit}
 use Rattle.std.specs.List.{prefix_len}
 use Rattle.std.specs.Str.{all_ascii_digits}
-use Rattle.std.specs.Str.Parse.{digits_value, digits_value_after, starts_with_minus, without_leading_sign}
-use Rattle.std.proofs.lemmas.Bool.{and_parts, and_from, lt-ltb, le-ltb, ne_eqb, le-leb, leb-true}
+use Rattle.std.specs.Str.Parse.{digits_value, digits_value_after}
+use Rattle.std.proofs.lemmas.Bool.{and_parts, lt-ltb, le-ltb, ne_eqb, le-leb}
 use Rattle.std.proofs.lemmas.Bool.Decides.{nat_tests}
 use Rattle.std.proofs.lemmas.Fmt.{decimal_is_IsNumeral_wide}
 use Rattle.std.proofs.lemmas.Nat.{pow-add, div-add-mod', mod-mul-add, div_below, mod_below}
-use Rattle.std.proofs.lemmas.List.{append-nil, take-append-le, drop-append-le}
+use Rattle.std.proofs.lemmas.List.{append-nil}
 use Rattle.std.proofs.Math.Nat.{div-le_self}
 use Rattle.std.specs.Int.{is_negative}
 use native.Mathlib.Numerals.{unary_clauses}
 use Rattle.dm_types.specs.Lanes.{is_within, kept_within}
-use Rattle.dm_text.specs.Numbers.{numeral, numeral_below, below, with_sign, signed, whole, front, fraction, parted, fixed_point, decimal_number}
+use Rattle.dm_text.specs.Numbers.{numeral, signed, whole, front, fraction, fixed_point, decimal_number}
 use Rattle.dm_text.specs.Printing.{places, point_text, decimal_text}
 use Rattle.dm_text.proofs.Numerals.{own}
 use Rattle.dm_text.proofs.Powers.{power_some, power_le}
@@ -82,9 +82,6 @@ first_digit (d ∷ ds) rest some digits = let is = (and_parts (is_ascii_digit d)
 
 signed_plain : (size : List ℕ → Option ℕ) (text : List ℕ) → 48 ≤ get_or text 0 0 → signed size text ≡ option_map pos (size text)
 signed_plain size text first = rw (ne_eqb (get_or text 0 0) 45 (λ e. omega (arith, e, first)), ne_eqb (get_or text 0 0) 43 (λ e. omega (arith, e, first))) refl
-
-signed_minus : (size : List ℕ → Option ℕ) (text : List ℕ) → signed size (45 ∷ text) ≡ option_map (λ n. neg_ℤ (pos n)) (size text)
-signed_minus size text = refl
 
 kept : (bits : ℕ) (z : ℤ) → is_within bits z ≡ true → kept_within bits z ≡ Some z
 kept bits z is = rw is refl
@@ -159,12 +156,14 @@ fixed_read room (suc s) a small few =
     let less : a / 10 ^ k < 10 ^ room = div_below a (10 ^ k) (10 ^ room) (omega (arith, power_some k)) product in
     let is = decimal_read (a / 10 ^ k) (omega (arith, less, power_le room 38 (omega (arith, few)))) in
     let some : (suc s == 0) ≡ false = ne_eqb (suc s) 0 (λ e. omega (arith, e)) in
-    rw (some,
+    rw (
+      some,
       point_found (decimal (a / 10 ^ k)) (places k a) is.digits,
       take_front (decimal (a / 10 ^ k)) (46 ∷ places k a),
       drop_behind (decimal (a / 10 ^ k)) (places k a) 46,
       front_read room k (a / 10 ^ k) (decimal (a / 10 ^ k)) is.read less,
-      fraction_read k a (omega arith))
+      fraction_read k a (omega arith),
+    )
     (ap Some (div-add-mod' a (10 ^ k)))
 
 first_of_body : (s a : ℕ) → a < 10 ^ 38 → 48 ≤ get_or (decimal (a / 10 ^ s) ++ point_text s a) 0 0

@@ -1,5 +1,5 @@
 -- Dates of the years 1 to 9999, in the calendar of `jiff`.
-use Rattle.std.specs.Prelude.{◌≡◌, IsTrue, ℕ, zero, suc, ◌+◌, ◌-◌, ◌==◌, ℤ, pos, ◌+ℤ◌, ◌-ℤ◌, unsigned_abs, List, ◌∷◌, ◌++◌, length, slice_index, slice_range, Bool, ◌&&◌, nat_le, Option, Some, None, if◌then◌else◌}
+use Rattle.std.specs.Prelude.{◌≡◌, IsTrue, ℕ, zero, suc, ◌+◌, ◌==◌, ℤ, pos, ◌-ℤ◌, unsigned_abs, List, length, slice_index, slice_range, Bool, ◌&&◌, nat_le, Option, Some, None, if◌then◌else◌}
 use Rattle.std.specs.Ordering.{int_cmp, is_le}
 use Rattle.jiff_core.specs.Calendar.{days_in_month, days_from_civil}
 use Rattle.dm_types.specs.Then.{◌>>=◌}

@@ -33,11 +33,7 @@ pub fn print_value(
 }
 
 /// The text of a value.
-pub(crate) fn value_text(
-    alloc: Global,
-    value: &Value,
-    kind: &DataType,
-) -> Result<Bytes, AllocError>
+pub(crate) fn value_text(alloc: Global, value: &Value, kind: &DataType) -> Result<Bytes, AllocError>
     requires { IsInRange kind.now value.now }
     ensures { IfOk result (λ text. text ≡ spec.printed value.now) }
 {

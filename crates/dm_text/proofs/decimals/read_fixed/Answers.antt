@@ -1,4 +1,4 @@
-use Rattle.std.proofs.Common.{ℕ, ◌+◌, ◌^◌, ◌<◌, ◌≤◌, arith}
+use Rattle.std.proofs.Common.{arith}
 use Rattle.dm_text.proofs.Points.{bounded, sum_bound}
 use Rattle.dm_text.proofs.decimals.read_fixed.Goals as goal
 

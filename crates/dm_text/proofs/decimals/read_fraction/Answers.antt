@@ -1,4 +1,4 @@
-use Rattle.std.proofs.Common.{◌≡◌, ℕ, ◌+◌, ◌-◌, ◌*◌, ◌^◌, ◌<◌, ◌≤◌, length, arith, rules, sym}
+use Rattle.std.proofs.Common.{◌≤◌, length, arith}
 use Rattle.dm_text.proofs.Powers.{power_le}
 use Rattle.dm_text.proofs.Points.{fraction_bound}
 use Rattle.dm_text.proofs.decimals.read_fraction.Goals as goal

@@ -1,4 +1,4 @@
-use Rattle.std.proofs.Common.{◌≡◌, ℕ, ◌+◌, ◌*◌, ◌^◌, ◌<◌, ◌≤◌, ◌∙◌, arith, rules, sym}
+use Rattle.std.proofs.Common.{◌+◌, ◌^◌, ◌<◌, arith, rules}
 use Rattle.dm_text.proofs.Powers.{scaled, power_le}
 use Rattle.dm_text.proofs.Points.{front_none}
 use Rattle.dm_text.proofs.decimals.read_front.Goals as goal

@@ -1,4 +1,4 @@
-use Rattle.std.proofs.Common.{◌≡◌, ◌-◌, arith}
+use Rattle.std.proofs.Common.{◌-◌, arith}
 use Rattle.dm_text.proofs.Powers.{power_some}
 use Rattle.dm_text.proofs.Places.{place_written, places_done}
 use Rattle.dm_text.proofs.digits.push_places.Goals as goal

@@ -1,4 +1,4 @@
-use Rattle.std.proofs.Common.{◌≡◌, ◌∙◌, true, rules, sym}
+use Rattle.std.proofs.Common.{◌≡◌, ◌∙◌, true, rules}
 use Rattle.std.specs.Str.{all_ascii_digits}
 use Rattle.dm_text.proofs.Numerals.{parsed, digits_utf8}
 use Rattle.dm_text.proofs.digits.read_digits.Goals as goal

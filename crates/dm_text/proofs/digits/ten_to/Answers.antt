@@ -1,4 +1,4 @@
-use Rattle.std.proofs.Common.{sym, arith}
+use Rattle.std.proofs.Common.{arith}
 use Rattle.dm_text.proofs.Powers.{power_fits}
 use Rattle.dm_text.proofs.digits.ten_to.Goals as goal
 

@@ -1,4 +1,4 @@
-use Rattle.std.proofs.Common.{rules, sym}
+use Rattle.std.proofs.Common.{rules}
 use Rattle.dm_text.proofs.Clocks.{no_moment}
 use Rattle.dm_text.proofs.moments.read_moment.Goals as goal
 
