@@ -1,0 +1,88 @@
+-- What is left of a file's rows, group by group.
+use Rattle.std.proofs.Common.{◌≡◌, ℕ, suc, ◌+◌, ◌<◌, ◌≤◌, List, [], ◌∷◌, length, get_or, drop, Bool, true, false, refl, sym, ap, ◌∙◌, arith, drop-cons, ℤ, pos, ◌+ℤ◌, ◌-ℤ◌, ◌≤ℤ◌, ◌<ℤ◌}
+use Rattle.std.specs.Prelude.{◌&&◌}
+use Rattle.std.specs.List.{list_all}
+use Rattle.std.specs.Ordering.{int_eq}
+use Rattle.std.specs.Int.Signed.{le_z}
+use Rattle.std.proofs.lemmas.Int.{ints}
+use Rattle.std.proofs.lemmas.List.{drop_all}
+use Rattle.std.proofs.lemmas.Bool.Decides.{Decides-int_eq}
+use Rattle.parquet_meta.specs.declared.metadata.RowGroup.{RowGroup}
+use Rattle.parquet_meta.specs.Meaning.{total_rows, rows_add_up}
+
+abbrev nonneg : List RowGroup → Bool
+nonneg gs = list_all (λ group. le_z (pos 0) group.rows) gs
+
+le_test : (z : ℤ) → pos 0 ≤ℤ z → le_z (pos 0) z ≡ true
+le_test z h = grind (arith, ints)
+
+gt_test : (z : ℤ) → z <ℤ pos 0 → le_z (pos 0) z ≡ false
+gt_test z h = grind (arith, ints)
+
+test_le : (z : ℤ) → le_z (pos 0) z ≡ true → pos 0 ≤ℤ z
+test_le z h = grind (arith, ints)
+
+and_left : (a b : Bool) → (a && b) ≡ true → a ≡ true
+and_left true b h = refl
+and_left false b h = h
+
+and_right : (a b : Bool) → (a && b) ≡ true → b ≡ true
+and_right true b h = h
+and_right false b h = absurd cc
+
+and_false : (a b : Bool) → (a ≡ true → b ≡ false) → (a && b) ≡ false
+and_false true b h = h refl
+and_false false b h = refl
+
+same_by : (a b : Bool) → (a ≡ true → b ≡ true) → (b ≡ true → a ≡ true) → a ≡ b
+same_by true b to from = sym (to refl)
+same_by false true to from = from refl
+same_by false false to from = refl
+
+not_true : (a : Bool) → (a ≡ true → true ≡ false) → a ≡ false
+not_true true h = h refl
+not_true false h = refl
+
+total-nonneg : (gs : List RowGroup) → nonneg gs ≡ true → pos 0 ≤ℤ total_rows gs
+total-nonneg [] h = test_le (pos 0) refl
+total-nonneg (g ∷ gs) h =
+    let here : pos 0 ≤ℤ g.rows = test_le g.rows (and_left (le_z (pos 0) g.rows) (nonneg gs) h) in
+    let more : pos 0 ≤ℤ total_rows gs = total-nonneg gs (and_right (le_z (pos 0) g.rows) (nonneg gs) h) in
+    omega (arith, ints)
+
+moved : (a t left : ℤ) → int_eq (a +ℤ t) left ≡ int_eq t (left -ℤ a)
+moved a t left = same_by _ _
+    (λ h. let e : a +ℤ t ≡ left = (Decides-int_eq (a +ℤ t) left).0 h in let d : t ≡ left -ℤ a = omega (arith, ints) in (Decides-int_eq t (left -ℤ a)).1 d)
+    (λ h. let e : t ≡ left -ℤ a = (Decides-int_eq t (left -ℤ a)).0 h in let d : a +ℤ t ≡ left = omega (arith, ints) in (Decides-int_eq (a +ℤ t) left).1 d)
+
+module _ (left : ℤ) (g : RowGroup) (gs : List RowGroup) where
+  taken_one : pos 0 ≤ℤ g.rows → rows_add_up left (g ∷ gs) ≡ rows_add_up (left -ℤ g.rows) gs
+  taken_one h = rw (le_test g.rows h, moved g.rows (total_rows gs) left) refl
+
+  negative_one : g.rows <ℤ pos 0 → rows_add_up left (g ∷ gs) ≡ false
+  negative_one h = rw (gt_test g.rows h) refl
+
+  past_one : left <ℤ g.rows → rows_add_up left (g ∷ gs) ≡ false
+  past_one h = and_false (nonneg (g ∷ gs)) (int_eq (g.rows +ℤ total_rows gs) left) (λ all.
+      let more : pos 0 ≤ℤ total_rows gs = total-nonneg gs (and_right (le_z (pos 0) g.rows) (nonneg gs) all) in
+      not_true (int_eq (g.rows +ℤ total_rows gs) left) (λ same.
+        let e : g.rows +ℤ total_rows gs ≡ left = (Decides-int_eq (g.rows +ℤ total_rows gs) left).0 same in absurd (omega (arith, ints))))
+
+module _ (groups : List RowGroup) (place : ℕ) (g : RowGroup) (stands : (place < length groups) × (g ≡ get_or groups place g)) (total : Bool) (left : ℤ)
+    (known : total ≡ rows_add_up left (drop place groups)) where
+  opened : total ≡ rows_add_up left (g ∷ drop (place + 1) groups)
+  opened =
+      let next : suc place ≡ place + 1 = omega arith in
+      known ∙ ap (rows_add_up left) (drop-cons groups place g stands.0 ∙ ap (λ n. n ∷ drop (suc place) groups) (sym stands.1) ∙ ap (λ k. g ∷ drop k groups) next)
+
+  pub taken : pos 0 ≤ℤ g.rows → total ≡ rows_add_up (left -ℤ g.rows) (drop (place + 1) groups)
+  taken h = opened ∙ taken_one left g (drop (place + 1) groups) h
+
+  pub negative : g.rows <ℤ pos 0 → total ≡ false
+  negative h = opened ∙ negative_one left g (drop (place + 1) groups) h
+
+  pub past : left <ℤ g.rows → total ≡ false
+  past h = opened ∙ past_one left g (drop (place + 1) groups) h
+
+pub all_taken : (groups : List RowGroup) (place : ℕ) (total : Bool) (left : ℤ) → total ≡ rows_add_up left (drop place groups) → length groups ≤ place → total ≡ int_eq (pos 0) left
+all_taken groups place total left known end = known ∙ ap (rows_add_up left) (drop_all place groups end)

@@ -1,0 +1,10 @@
+pub mod Forms
+pub mod Answers
+pub mod Headers
+pub mod Logicals
+pub mod Elements
+pub mod Leaves
+pub mod Chunks
+pub mod Meaning
+pub mod Written
+pub mod Writable

@@ -1,0 +1,25 @@
+//! The footer and the page headers of a Parquet file, both ways (parquet.thrift).
+#![tactic(auto)]
+
+mod building;
+mod chunks;
+mod elements;
+mod fault;
+mod forms;
+mod headers;
+mod leaves;
+mod logical_types;
+mod metadata;
+mod page_trees;
+mod pages;
+mod reading;
+mod writing;
+
+pub use fault::{MetaFault, Memory};
+pub use headers::{DictionaryPage, PageHeader, PageV1, PageV2};
+pub use metadata::{
+    Annotation, ChunkList, ChunkMeta, Footer, GroupList, LeafList, LeafSchema, Logical, Names,
+    RowGroup,
+};
+pub use reading::{read_footer, read_page_header};
+pub use writing::write_page_header;
