@@ -103,8 +103,7 @@ header_fields h = fields_of (header_table h)
 
 -- TimeUnit: 1 MILLIS, 2 MICROS, 3 NANOS; 0 stands for none
 abbrev pub unit_content : ℕ → Option (ℕ × Node)
-unit_content zero = None
-unit_content (suc more) = Some (struct ((pos (suc more), Some (struct [])) ∷ []))
+unit_content unit = if unit == 0 then None else Some (struct ((pos unit, Some (struct [])) ∷ []))
 
 -- LogicalType: 1 STRING, 5 DECIMAL (1 scale), 6 DATE, 8 TIMESTAMP (2 unit)
 abbrev pub logical_content : Logical → Option (ℕ × Node)
@@ -120,15 +119,15 @@ abbrev pub told_length : ℤ → Option ℤ
 told_length z = if int_eq z (pos 0) then None else Some z
 
 -- 0 REQUIRED, 1 OPTIONAL, 2 REPEATED
-abbrev pub repetition_of : LeafSchema → ℕ
-repetition_of leaf = if leaf.repeated then 2 else if leaf.optional then 1 else 0
+abbrev pub repetition_by : Bool → Bool → ℕ
+repetition_by optional repeated = if repeated then 2 else if optional then 1 else 0
 
 -- SchemaElement of a leaf
 abbrev pub leaf_table : LeafSchema → List (ℤ × Option (ℕ × Node))
 leaf_table leaf =
     (pos 1, Some (whole_32 (pos leaf.physical)))                 -- 1 type
     ∷ (pos 2, option_map whole_32 (told_length leaf.length))     -- 2 type_length
-    ∷ (pos 3, Some (whole_32 (pos (repetition_of leaf))))        -- 3 repetition_type
+    ∷ (pos 3, Some (whole_32 (pos (repetition_by leaf.optional leaf.repeated))))        -- 3 repetition_type
     ∷ (pos 4, Some (bytes leaf.name))                            -- 4 name
     ∷ (pos 6, option_map whole_32 leaf.annotation.converted)     -- 6 converted_type
     ∷ (pos 7, option_map whole_32 leaf.annotation.scale)         -- 7 scale
@@ -146,9 +145,12 @@ root_table count =
 
 -- ---- chunks and footers
 
+abbrev pub whole_width : List ℤ → ℕ
+whole_width [] = 0
+whole_width (z ∷ zs) = 32
+
 abbrev pub whole_list : List ℤ → ℕ × Node
-whole_list [] = (0, n.List [])
-whole_list (z ∷ zs) = (32, n.List (map n.Whole (z ∷ zs)))
+whole_list zs = (whole_width zs, n.List (map n.Whole zs))
 
 -- ColumnMetaData
 abbrev pub column_table : ChunkMeta → List (ℤ × Option (ℕ × Node))

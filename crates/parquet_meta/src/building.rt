@@ -3,12 +3,13 @@ ghost use Rattle.std.specs.Prelude.{◌≡◌, ◌++◌, ℕ, ℤ, map, option_m
 ghost use Rattle.std.specs.Int.{w32, w64};
 ghost use Rattle.thrift_compact.specs.declared.tree.Node.{Node as ANode};
 ghost use Rattle.thrift_compact.specs.declared.tree.Node.TheVariants as n;
-ghost use Rattle.parquet_meta.specs.Written.{entry};
+ghost use Rattle.std.specs.List.{AllByRecursion};
+ghost use Rattle.parquet_meta.specs.Written.{entry, nodes as nodes_content};
 
 use dm_types::Bytes;
 use sqlite_items::Items;
 use std::alloc::{AllocError, Global};
-use thrift_compact::{Field, Node, Tree};
+use thrift_compact::{Field, Node, Nodes, Tree};
 
 /// What a field or an element is written as.
 pub(crate) trait Written {
@@ -59,6 +60,51 @@ pub(crate) fn put_maybe<T: Written>(
     match value {
         Some(found) => put(alloc, tree, id, found),
         None => Ok(()),
+    }
+}
+
+/// Adds what values of no width are written as.
+pub(crate) fn append_nodes<T: Written>(
+    alloc: Global,
+    nodes: &mut Nodes,
+    values: &[T],
+) -> Result<(), AllocError>
+    ensures nodes { OnOk result (nodes.new ≡ nodes.old ++ map T.written values.now) }
+    ensures range { OnOk result (AllByRecursion T.fits values.now) }
+{
+    for value in values {
+        nodes.push(value.write(alloc)?)?;
+    }
+    Ok(())
+}
+
+/// A list of values of no width.
+pub(crate) fn put_list<T: Written>(
+    alloc: Global,
+    tree: &mut Tree,
+    id: i16,
+    values: &[T],
+) -> Result<(), AllocError>
+    ensures tree { OnOk result (tree.new
+        ≡ tree.old ++ entry id (Some (nodes_content (map T.written values.now)))) }
+    ensures range { OnOk result (AllByRecursion T.fits values.now) }
+{
+    let mut nodes = Items::new(alloc);
+    append_nodes(alloc, &mut nodes, values)?;
+    put_node(tree, id, 0, Node::List(nodes))
+}
+
+impl Written for Bytes {
+    ghost width = { 0 };
+    ghost written = { n.Binary };
+    ghost fits = { λ _. Unit {0} };
+
+    fn width() -> u8 {
+        0
+    }
+
+    fn write(&self, alloc: Global) -> Result<Node, AllocError> {
+        Ok(Node::Binary(Items::from_slice(alloc, self.as_slice())?))
     }
 }
 

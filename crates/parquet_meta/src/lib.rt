@@ -5,8 +5,10 @@ mod building;
 mod chunks;
 mod elements;
 mod fault;
+mod footer_trees;
 mod forms;
 mod headers;
+mod leaf_trees;
 mod leaves;
 mod logical_types;
 mod metadata;
@@ -22,4 +24,4 @@ pub use metadata::{
     RowGroup,
 };
 pub use reading::{read_footer, read_page_header};
-pub use writing::write_page_header;
+pub use writing::{write_footer, write_page_header};
