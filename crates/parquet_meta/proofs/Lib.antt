@@ -4,3 +4,6 @@ pub mod Owed
 pub mod Tables
 pub mod WritableTables
 pub mod HeadersBack
+pub mod LeavesBack
+pub mod FootersBack
+pub mod FootersWritable

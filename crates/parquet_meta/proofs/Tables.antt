@@ -76,9 +76,11 @@ struct_back meaning fields = ap (λ o. option_and_then meaning (struct_in o)) (n
 pub list_back : {A : Type 0} (form : Form A) (width : ℕ) (nodes : List Node) → list form width (n.List nodes) ≡ each (form width) nodes
 list_back form width nodes = ap (λ o. option_and_then (each (form width)) (nodes_in o)) (n.outs-List nodes)
 
-pub each_back : {A : Type 0} (form : Node → Option A) (into : A → Node) (P : A → Type 0) (back : (a : A) → P a → form (into a) ≡ Some a) (xs : List A) → AllByRecursion P xs → each form (map into xs) ≡ Some xs
-each_back form into P back [] h = refl
-each_back form into P back (x ∷ xs) h = rw (back x h.0, each_back form into P back xs h.1) refl
+-- elements that are written by `into` are read as `seen`
+pub each_back : {A B : Type 0} (form : Node → Option B) (into : A → Node) (seen : A → B) (P : A → Type 0) (back : (a : A) → P a → form (into a) ≡ Some (seen a)) (xs : List A) → AllByRecursion P xs
+    → each form (map into xs) ≡ Some (map seen xs)
+each_back form into seen P back [] h = refl
+each_back form into seen P back (x ∷ xs) h = rw (back x h.0, each_back form into seen P back xs h.1) refl
 
 -- a field that there may be
 pub maybe_back : {A : Type 0} (form : Form A) (id : ℤ) (into : A → ℕ × Node) (P : A → Type 0) (back : (a : A) → P a → form (into a).0 (into a).1 ≡ Some a) (o : Option A) → IfSome o P

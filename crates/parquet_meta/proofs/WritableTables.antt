@@ -4,16 +4,21 @@ use Rattle.std.specs.Prelude.{IfSome, FitsSigned}
 use Rattle.std.specs.Int.{w16, w32, w64}
 use Rattle.std.specs.List.{AllByRecursion}
 use Rattle.thrift_compact.specs.Writable.{IsWholeOf, IsField, IsWritableValue, IsElement, AreElements}
+use Rattle.thrift_compact.specs.Written.{whole_kind, form_of}
 use Rattle.thrift_compact.specs.declared.tree.Node.{Node}
 use Rattle.thrift_compact.specs.declared.tree.Node.TheVariants as n
 use Rattle.thrift_compact.specs.declared.tree.Field.{Field}
 use Rattle.parquet_meta.specs.Written as w
 
--- the law of thrift_compact on single values
+-- The law of thrift_compact on single values. Its types of elements can't be named here: that of a struct is told as the type of the empty one.
 pub record WritableValues : Type 0 where
   pub whole : (left width : ℕ) (z : ℤ) → IsWholeOf width z → IsWritableValue left width (n.Whole z)
   pub binary : (left : ℕ) (bytes : List ℕ) → IsWritableValue left 0 (n.Binary bytes)
   pub structs : (left : ℕ) (fields : List Field) → AllByRecursion (IsField (IsWritableValue left)) fields → IsWritableValue (left + 1) 0 (n.Struct fields)
+  pub lists : (left width : ℕ) (nodes : List Node) → AreElements (IsWritableValue left) width nodes → IsWritableValue (left + 1) width (n.List nodes)
+  pub whole_element : (left width : ℕ) (z : ℤ) → IsWholeOf width z → IsElement (IsWritableValue left) width (whole_kind width) (n.Whole z)
+  pub binary_element : (left : ℕ) (bytes : List ℕ) → IsElement (IsWritableValue left) 0 (form_of (n.Binary []) 0).kind (n.Binary bytes)
+  pub struct_element : (left : ℕ) (fields : List Field) → AllByRecursion (IsField (IsWritableValue left)) fields → IsElement (IsWritableValue (left + 1)) 0 (form_of (n.Struct []) 0).kind (n.Struct fields)
 
 -- the fields of a struct, in which so many more structs and lists may be open
 abbrev pub AreFields : ℕ → List Field → Type 0
