@@ -25,3 +25,6 @@ pub use metadata::{
 };
 pub use reading::{read_footer, read_page_header};
 pub use writing::{write_footer, write_page_header};
+
+#[cfg(test)]
+mod tests;
