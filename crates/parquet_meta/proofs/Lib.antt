@@ -7,3 +7,5 @@ pub mod HeadersBack
 pub mod LeavesBack
 pub mod FootersBack
 pub mod FootersWritable
+pub mod ReadLaws
+pub mod TreeLaws

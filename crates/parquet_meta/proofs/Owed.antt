@@ -24,7 +24,7 @@ pub joined-nil : (o : Option (List LeafSchema)) → o ≡ joined [] o
 joined-nil None = refl
 joined-nil (Some xs) = refl
 
-joined-joined : (a b : List LeafSchema) (o : Option (List LeafSchema)) → joined a (joined b o) ≡ joined (a ++ b) o
+pub joined-joined : (a b : List LeafSchema) (o : Option (List LeafSchema)) → joined a (joined b o) ≡ joined (a ++ b) o
 joined-joined a b None = refl
 joined-joined a b (Some more) = ap Some (sym (append_assoc a b more))
 

@@ -4,6 +4,7 @@ pub mod Headers
 pub mod Logicals
 pub mod Elements
 pub mod Leaves
+pub mod Trees
 pub mod Chunks
 pub mod Meaning
 pub mod Written

@@ -8,6 +8,7 @@ mod fault;
 mod footer_trees;
 mod forms;
 mod headers;
+mod laws;
 mod leaf_trees;
 mod leaves;
 mod logical_types;
@@ -17,7 +18,8 @@ mod pages;
 mod reading;
 mod writing;
 
-pub use fault::{MetaFault, Memory};
+pub use fault::{Memory, MetaFault};
+pub use laws::{footers_are_read, page_headers_are_read, schemas_are_trees};
 pub use headers::{DictionaryPage, PageHeader, PageV1, PageV2};
 pub use metadata::{
     Annotation, ChunkList, ChunkMeta, Footer, GroupList, LeafList, LeafSchema, Logical, Names,

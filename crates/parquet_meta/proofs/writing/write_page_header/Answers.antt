@@ -1,4 +1,4 @@
-use Rattle.std.proofs.Common.{◌≡◌, ◌++◌, length, Ok, subst, sym, List, rules}
+use Rattle.std.proofs.Common.{◌≡◌, ◌++◌, [], length, Ok, subst, sym, List}
 use Rattle.thrift_compact.specs.Reading.{read}
 use Rattle.thrift_compact.specs.Written as wt
 use Rattle.thrift_compact.specs.Writable.{IsWritable}
