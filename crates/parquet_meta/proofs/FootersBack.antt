@@ -1,20 +1,18 @@
 -- What is written for a footer is read as that footer.
-use Rattle.std.proofs.Common.{◌≡◌, ℕ, zero, suc, ◌+◌, ◌<◌, ◌≤◌, ◌^◌, List, [], ◌∷◌, ◌++◌, length, map, Bool, true, false, eqb, Option, Some, None, option_map, option_and_then, Ok, refl, sym, ap, ◌∙◌, subst, arith, eq-eqb, ℤ, pos, codes}
-use Rattle.std.specs.Prelude.{IfSome, FitsSigned}
+use Rattle.std.proofs.Common.{◌≡◌, ℕ, ◌<◌, ◌^◌, List, [], ◌∷◌, length, map, Bool, false, Option, Some, None, option_map, option_and_then, Ok, refl, sym, ap, ◌∙◌, arith, eq-eqb, ℤ, pos, codes}
+use Rattle.std.specs.Prelude.{FitsSigned}
 use Rattle.std.specs.Int.{w32, w64}
 use Rattle.std.specs.List.{AllByRecursion}
 use Rattle.thrift_compact.specs.Reading.{read}
-use Rattle.thrift_compact.specs.declared.tree.Node.{Node}
 use Rattle.thrift_compact.specs.declared.tree.Node.TheVariants as n
 use Rattle.thrift_compact.specs.declared.tree.Field.{Field}
 use Rattle.parquet_meta.specs.declared.forms.Shape.TheVariants as shape
 use Rattle.parquet_meta.specs.declared.metadata.Logical.TheVariants as logical
-use Rattle.parquet_meta.specs.declared.metadata.LeafSchema.{LeafSchema}
 use Rattle.parquet_meta.specs.declared.metadata.ChunkMeta.{ChunkMeta}
 use Rattle.parquet_meta.specs.declared.metadata.RowGroup.{RowGroup}
 use Rattle.parquet_meta.specs.declared.metadata.Footer.{Footer}
 use Rattle.parquet_meta.specs.declared.elements.Element.{Element}
-use Rattle.parquet_meta.specs.Forms.{needed, optional, maybe, checked, maybe_checked, i32, i64, binary, struct, list, each}
+use Rattle.parquet_meta.specs.Forms.{needed, optional, checked, maybe_checked, i32, i64, binary, struct, list, each}
 use Rattle.parquet_meta.specs.Elements.{element_of}
 use Rattle.parquet_meta.specs.Chunks.{column_of, chunk_of, group_of}
 use Rattle.parquet_meta.specs.Meaning.{footer_of, whole_footer, footer_in}
@@ -46,7 +44,7 @@ module _ (c : ChunkMeta) (fits : ChunkFits c) (is : IsWritableChunk c) where
       let physical : needed i32 (pos 1) (w.fields_of t) ≡ Some c.physical = needed-table i32 (pos 1) t ∙ i32_back c.physical fits.physical in
       let encodings : needed (list i32) (pos 2) (w.fields_of t) ≡ Some c.encodings = needed-table (list i32) (pos 2) t ∙ encodings_back c.encodings is.encodings in
       let path : needed (list binary) (pos 3) (w.fields_of t) ≡ Some c.path =
-        needed-table (list binary) (pos 3) t ∙ list_back binary 0 (map n.Binary c.path) ∙ each_back (binary 0) n.Binary (λ b. b) (λ b. Unit {0}) (λ b u. binary_back b) c.path (all_of (λ b. Unit {0}) c.path (λ b. tt)) ∙ ap Some (map_same c.path) in
+      needed-table (list binary) (pos 3) t ∙ list_back binary 0 (map n.Binary c.path) ∙ each_back (binary 0) n.Binary (λ b. b) (λ b. Unit {0}) (λ b u. binary_back b) c.path (all_of (λ b. Unit {0}) c.path (λ b. tt)) ∙ ap Some (map_same c.path) in
       let codec : needed i32 (pos 4) (w.fields_of t) ≡ Some c.codec = needed-table i32 (pos 4) t ∙ i32_back c.codec fits.codec in
       let values : needed i64 (pos 5) (w.fields_of t) ≡ Some c.values = needed-table i64 (pos 5) t ∙ i64_back c.values in
       let unpacked : needed i64 (pos 6) (w.fields_of t) ≡ Some c.unpacked = needed-table i64 (pos 6) t ∙ i64_back c.unpacked in
@@ -66,8 +64,8 @@ module _ (c : ChunkMeta) (fits : ChunkFits c) (is : IsWritableChunk c) where
 group_back : (g : RowGroup) → GroupFits g × AllByRecursion IsWritableChunk g.chunks → struct group_of 0 (w.inner (w.group_table g)) ≡ Some g
 group_back g h =
     let chunks : list (struct chunk_of) 0 (n.List (map (λ c. w.inner (w.chunk_table c)) g.chunks)) ≡ Some g.chunks =
-      list_back (struct chunk_of) 0 (map (λ c. w.inner (w.chunk_table c)) g.chunks)
-      ∙ each_back (struct chunk_of 0) (λ c. w.inner (w.chunk_table c)) (λ c. c) (λ c. ChunkFits c × IsWritableChunk c) (λ c k. chunk_back c k.0 k.1) g.chunks (both ChunkFits IsWritableChunk g.chunks h.0.chunks h.1) ∙ ap Some (map_same g.chunks) in
+    list_back (struct chunk_of) 0 (map (λ c. w.inner (w.chunk_table c)) g.chunks)
+    ∙ each_back (struct chunk_of 0) (λ c. w.inner (w.chunk_table c)) (λ c. c) (λ c. ChunkFits c × IsWritableChunk c) (λ c k. chunk_back c k.0 k.1) g.chunks (both ChunkFits IsWritableChunk g.chunks h.0.chunks h.1) ∙ ap Some (map_same g.chunks) in
     let t = w.group_table g in
     let columns : needed (list (struct chunk_of)) (pos 1) (w.fields_of t) ≡ Some g.chunks = needed-table (list (struct chunk_of)) (pos 1) t ∙ chunks in
     let bytes : needed i64 (pos 2) (w.fields_of t) ≡ Some g.bytes = needed-table i64 (pos 2) t ∙ i64_back g.bytes in
@@ -78,8 +76,15 @@ group_back g h =
     by_parts t columns bytes rows = rw (columns, bytes, rows) refl
 
 abbrev root_element : ℕ → Element
-root_element count = record { physical = None; length = None; repetition = None; name = codes "schema"; children = Some (pos count); field_id = None;
-  annotation = record { converted = None; scale = None; precision = None; logical = logical.Absent } }
+root_element count = record {
+  physical = None;
+  length = None;
+  repetition = None;
+  name = codes "schema";
+  children = Some (pos count);
+  field_id = None;
+  annotation = record { converted = None; scale = None; precision = None; logical = logical.Absent };
+}
 
 footer_by_parts : (f : Footer) (t : List Field) (root : Element) (version : ℤ) → needed i32 (pos 1) t ≡ Some version
     → needed (list (struct element_of)) (pos 2) t ≡ Some (root ∷ map leaf_element f.leaves)
@@ -96,29 +101,31 @@ footer_back f fits is =
     let few : length f.leaves < 2 ^ 31 = is.few in
     let count_fits : FitsSigned w32 (pos (length f.leaves)) = omega arith in
     let elements : list (struct element_of) 0 (n.List (w.inner (w.root_table count) ∷ map (λ leaf. w.inner (w.leaf_table leaf)) f.leaves)) ≡ Some (root_element count ∷ map leaf_element f.leaves) =
-      list_back (struct element_of) 0 (w.inner (w.root_table count) ∷ map (λ leaf. w.inner (w.leaf_table leaf)) f.leaves)
-      ∙ with_root (struct element_of 0 (w.inner (w.root_table count))) (root_element count) (each (struct element_of 0) (map (λ leaf. w.inner (w.leaf_table leaf)) f.leaves)) (map leaf_element f.leaves)
-        (struct_back element_of (w.fields_of (w.root_table count)) ∙ root_back count count_fits)
-        (each_back (struct element_of 0) (λ leaf. w.inner (w.leaf_table leaf)) leaf_element (λ leaf. LeafFits leaf × IsWritableLeaf leaf)
-          (λ leaf k. struct_back element_of (w.fields_of (w.leaf_table leaf)) ∙ element_back leaf k.0 k.1) f.leaves (both LeafFits IsWritableLeaf f.leaves fits.leaves is.leaves)) in
+    list_back (struct element_of) 0 (w.inner (w.root_table count) ∷ map (λ leaf. w.inner (w.leaf_table leaf)) f.leaves)
+    ∙ with_root (struct element_of 0 (w.inner (w.root_table count))) (root_element count) (each (struct element_of 0) (map (λ leaf. w.inner (w.leaf_table leaf)) f.leaves)) (map leaf_element f.leaves)
+    (struct_back element_of (w.fields_of (w.root_table count)) ∙ root_back count count_fits)
+    (each_back (struct element_of 0) (λ leaf. w.inner (w.leaf_table leaf)) leaf_element (λ leaf. LeafFits leaf × IsWritableLeaf leaf)
+    (λ leaf k. struct_back element_of (w.fields_of (w.leaf_table leaf)) ∙ element_back leaf k.0 k.1) f.leaves (both LeafFits IsWritableLeaf f.leaves fits.leaves is.leaves)) in
     let groups : list (struct group_of) 0 (n.List (map (λ g. w.inner (w.group_table g)) f.groups)) ≡ Some f.groups =
-      list_back (struct group_of) 0 (map (λ g. w.inner (w.group_table g)) f.groups)
-      ∙ each_back (struct group_of 0) (λ g. w.inner (w.group_table g)) (λ g. g) (λ g. GroupFits g × AllByRecursion IsWritableChunk g.chunks) group_back f.groups
-        (both GroupFits (λ g. AllByRecursion IsWritableChunk g.chunks) f.groups fits.groups is.chunks) ∙ ap Some (map_same f.groups) in
+    list_back (struct group_of) 0 (map (λ g. w.inner (w.group_table g)) f.groups)
+    ∙ each_back (struct group_of 0) (λ g. w.inner (w.group_table g)) (λ g. g) (λ g. GroupFits g × AllByRecursion IsWritableChunk g.chunks) group_back f.groups
+    (both GroupFits (λ g. AllByRecursion IsWritableChunk g.chunks) f.groups fits.groups is.chunks) ∙ ap Some (map_same f.groups) in
     footer_by_parts f (w.fields_of t) (root_element count) (pos 1)
-      (needed-table i32 (pos 1) t ∙ i32_back (pos 1) one_fits)
-      (needed-table (list (struct element_of)) (pos 2) t ∙ elements)
-      (needed-table i64 (pos 3) t ∙ i64_back f.rows)
-      (needed-table (list (struct group_of)) (pos 4) t ∙ groups)
-      (checked-table shape.Structs (pos 5) t)
-      (checked-table shape.Binary (pos 6) t ∙ created_back)
-      (checked-table shape.Structs (pos 7) t)
-      refl is
+    (needed-table i32 (pos 1) t ∙ i32_back (pos 1) one_fits)
+    (needed-table (list (struct element_of)) (pos 2) t ∙ elements)
+    (needed-table i64 (pos 3) t ∙ i64_back f.rows)
+    (needed-table (list (struct group_of)) (pos 4) t ∙ groups)
+    (checked-table shape.Structs (pos 5) t)
+    (checked-table shape.Binary (pos 6) t ∙ created_back)
+    (checked-table shape.Structs (pos 7) t)
+    refl is
   where
     one_fits : FitsSigned w32 (pos 1)
     one_fits = omega arith
+
     with_root : {A : Type 0} (o : Option A) (a : A) (more : Option (List A)) (as' : List A) → o ≡ Some a → more ≡ Some as' → option_and_then (λ x. option_map (λ xs. x ∷ xs) more) o ≡ Some (a ∷ as')
     with_root o a more as' h k = rw (h, k) refl
+
     created_back : maybe_checked shape.Binary (Some (record { id = pos 6; width = 0; node = n.Binary (codes "deltamerge") })) ≡ Some tt
     created_back = rw (n.outs-Binary (codes "deltamerge")) refl
 

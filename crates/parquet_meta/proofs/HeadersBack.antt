@@ -1,12 +1,7 @@
 -- What is written for a page header is read as that header.
-use Rattle.std.proofs.Common.{◌≡◌, ℕ, ◌+◌, ◌<◌, List, [], ◌∷◌, ◌++◌, length, Option, Some, None, option_map, option_and_then, Ok, refl, sym, ap, ◌∙◌, arith, ℤ, pos, lit<}
-use Rattle.std.specs.Prelude.{IfSome, FitsSigned}
-use Rattle.std.specs.Int.{w32}
-use Rattle.std.specs.List.{AllByRecursion}
+use Rattle.std.proofs.Common.{◌≡◌, ℕ, List, Some, option_and_then, Ok, refl, ap, ◌∙◌, pos, lit<}
 use Rattle.thrift_compact.specs.Reading.{read}
 use Rattle.thrift_compact.specs.Writable.{IsWritable, IsWritableValue}
-use Rattle.thrift_compact.specs.declared.tree.Node.{Node}
-use Rattle.thrift_compact.specs.declared.tree.Field.{Field}
 use Rattle.parquet_meta.specs.declared.forms.Shape.TheVariants as shape
 use Rattle.parquet_meta.specs.declared.headers.PageHeader.{PageHeader}
 use Rattle.parquet_meta.specs.declared.headers.PageV1.{PageV1}
@@ -18,7 +13,7 @@ use Rattle.parquet_meta.specs.Meaning.{front_header, page_header_in}
 use Rattle.parquet_meta.specs.Writable.{PageFits, DictionaryFits, PageV2Fits, HeaderFits}
 use Rattle.parquet_meta.specs.Written as w
 use Rattle.parquet_meta.proofs.Tables.{needed-table, optional-table, checked-table, i32_back, struct_back, maybe_back}
-use Rattle.parquet_meta.proofs.WritableTables.{WritableValues, IsEntry, if_map, table_writable, inner_writable, entry_32, id_fits}
+use Rattle.parquet_meta.proofs.WritableTables.{WritableValues, if_map, table_writable, inner_writable, entry_32, id_fits}
 
 pub page_back : (p : PageV1) → PageFits p → page_of (w.fields_of (w.page_table p)) ≡ Some p
 page_back p fits = rw (i32_back p.values fits.values, i32_back p.encoding fits.encoding, i32_back p.definition fits.definition, i32_back p.repetition fits.repetition) refl
@@ -56,20 +51,38 @@ front_back h bytes size fits is = ap front_header is ∙ ap (option_and_then (λ
 module _ (law : WritableValues) where
   page_writable : (p : PageV1) → PageFits p → IsWritableValue 63 0 (w.inner (w.page_table p))
   page_writable p fits = inner_writable law 62 (w.page_table p)
-    (entry_32 law 62 1 p.values (lit< tt) fits.values, (entry_32 law 62 2 p.encoding (lit< tt) fits.encoding, (entry_32 law 62 3 p.definition (lit< tt) fits.definition, (entry_32 law 62 4 p.repetition (lit< tt) fits.repetition, tt))))
+      (entry_32 law 62 1 p.values (lit< tt) fits.values, (entry_32 law 62 2 p.encoding (lit< tt) fits.encoding, (entry_32 law 62 3 p.definition (lit< tt) fits.definition, (entry_32 law 62 4 p.repetition (lit< tt) fits.repetition, tt))))
 
   dictionary_writable : (p : DictionaryPage) → DictionaryFits p → IsWritableValue 63 0 (w.inner (w.dictionary_table p))
   dictionary_writable p fits = inner_writable law 62 (w.dictionary_table p) (entry_32 law 62 1 p.values (lit< tt) fits.values, (entry_32 law 62 2 p.encoding (lit< tt) fits.encoding, tt))
 
   page_v2_writable : (p : PageV2) → PageV2Fits p → IsWritableValue 63 0 (w.inner (w.page_v2_table p))
-  page_v2_writable p fits = inner_writable law 62 (w.page_v2_table p)
-    (entry_32 law 62 1 p.values (lit< tt) fits.values, (entry_32 law 62 2 p.nulls (lit< tt) fits.nulls, (entry_32 law 62 3 p.rows (lit< tt) fits.rows,
-     (entry_32 law 62 4 p.encoding (lit< tt) fits.encoding, (entry_32 law 62 5 p.definition_bytes (lit< tt) fits.definition, (entry_32 law 62 6 p.repetition_bytes (lit< tt) fits.repetition, tt))))))
+  page_v2_writable p fits = inner_writable law 62 (w.page_v2_table p) (
+    entry_32 law 62 1 p.values (lit< tt) fits.values,
+    (
+      entry_32 law 62 2 p.nulls (lit< tt) fits.nulls,
+      (
+        entry_32 law 62 3 p.rows (lit< tt) fits.rows,
+        (entry_32 law 62 4 p.encoding (lit< tt) fits.encoding, (entry_32 law 62 5 p.definition_bytes (lit< tt) fits.definition, (entry_32 law 62 6 p.repetition_bytes (lit< tt) fits.repetition, tt))),
+      ),
+    ),
+  )
 
   pub header_writable : (h : PageHeader) → HeaderFits h → IsWritable (w.header_fields h)
   unfolding w.header_fields
-  header_writable h fits = table_writable 63 (w.header_table h)
-    (entry_32 law 63 1 h.kind (lit< tt) fits.kind, (entry_32 law 63 2 h.unpacked (lit< tt) fits.unpacked, (entry_32 law 63 3 h.packed (lit< tt) fits.packed,
-     (record { id = id_fits 5 (lit< tt); value = if_map PageFits (λ v. IsWritableValue 63 v.0 v.1) (λ p. w.struct (w.page_table p)) h.page page_writable fits.page },
-     (record { id = id_fits 7 (lit< tt); value = if_map DictionaryFits (λ v. IsWritableValue 63 v.0 v.1) (λ p. w.struct (w.dictionary_table p)) h.dictionary dictionary_writable fits.dictionary },
-     (record { id = id_fits 8 (lit< tt); value = if_map PageV2Fits (λ v. IsWritableValue 63 v.0 v.1) (λ p. w.struct (w.page_v2_table p)) h.page_v2 page_v2_writable fits.page_v2 }, tt))))))
+  header_writable h fits = table_writable 63 (w.header_table h) (
+    entry_32 law 63 1 h.kind (lit< tt) fits.kind,
+    (
+      entry_32 law 63 2 h.unpacked (lit< tt) fits.unpacked,
+      (
+        entry_32 law 63 3 h.packed (lit< tt) fits.packed,
+        (
+          record { id = id_fits 5 (lit< tt); value = if_map PageFits (λ v. IsWritableValue 63 v.0 v.1) (λ p. w.struct (w.page_table p)) h.page page_writable fits.page },
+          (
+            record { id = id_fits 7 (lit< tt); value = if_map DictionaryFits (λ v. IsWritableValue 63 v.0 v.1) (λ p. w.struct (w.dictionary_table p)) h.dictionary dictionary_writable fits.dictionary },
+            (record { id = id_fits 8 (lit< tt); value = if_map PageV2Fits (λ v. IsWritableValue 63 v.0 v.1) (λ p. w.struct (w.page_v2_table p)) h.page_v2 page_v2_writable fits.page_v2 }, tt),
+          ),
+        ),
+      ),
+    ),
+  )

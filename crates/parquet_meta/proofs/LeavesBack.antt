@@ -1,5 +1,5 @@
 -- What is written for leaves is read as those leaves.
-use Rattle.std.proofs.Common.{◌≡◌, ℕ, zero, suc, ◌+◌, ◌<◌, ◌≤◌, List, [], ◌∷◌, ◌++◌, length, map, Bool, true, false, cond, eqb, leb, Option, Some, None, option_map, option_and_then, refl, sym, ap, ◌∙◌, subst, arith, le-leb, ℤ, pos, negsuc, codes}
+use Rattle.std.proofs.Common.{◌≡◌, ℕ, zero, suc, ◌≤◌, List, [], ◌∷◌, length, map, Bool, true, false, cond, Option, Some, None, option_map, option_and_then, refl, sym, ap, ◌∙◌, arith, le-leb, ℤ, pos, codes}
 use Rattle.std.specs.Prelude.{IfSome, FitsSigned, ◌&&◌, unwrap_or, ◌==◌, nat_le}
 use Rattle.std.specs.Int.{w32}
 use Rattle.std.specs.Ordering.{int_eq}
@@ -8,19 +8,17 @@ use Rattle.std.proofs.lemmas.Bool.Decides.{Decides-int_eq}
 use Rattle.thrift_compact.specs.declared.tree.Node.{Node}
 use Rattle.thrift_compact.specs.declared.tree.Node.TheVariants as n
 use Rattle.thrift_compact.specs.declared.tree.Field.{Field}
-use Rattle.parquet_meta.specs.declared.forms.Shape.TheVariants as shape
-use Rattle.parquet_meta.specs.declared.metadata.Annotation.{Annotation}
 use Rattle.parquet_meta.specs.declared.metadata.Logical.{Logical}
 use Rattle.parquet_meta.specs.declared.metadata.Logical.TheVariants as logical
 use Rattle.parquet_meta.specs.declared.metadata.LeafSchema.{LeafSchema}
 use Rattle.parquet_meta.specs.declared.elements.Element.{Element}
-use Rattle.parquet_meta.specs.Forms.{needed, optional, maybe, checked, i32, binary, struct}
+use Rattle.parquet_meta.specs.Forms.{needed, optional, maybe, i32, binary, struct}
 use Rattle.parquet_meta.specs.Logicals.{logical_of}
 use Rattle.parquet_meta.specs.Elements.{element_of}
-use Rattle.parquet_meta.specs.Leaves.{up_to, count_of, is_long_enough, leaf_of, own_leaves, joined, leaves_of, schema_leaves}
+use Rattle.parquet_meta.specs.Leaves.{count_of, leaf_of, leaves_of, schema_leaves}
 use Rattle.parquet_meta.specs.Writable.{LogicalFits, LeafFits, IsWritableLogical, IsWritableLeaf}
 use Rattle.parquet_meta.specs.Written as w
-use Rattle.parquet_meta.proofs.Tables.{pick, found, needed-table, optional-table, checked-table, i32_back, binary_back, struct_back, maybe_back}
+use Rattle.parquet_meta.proofs.Tables.{pick, needed-table, optional-table, i32_back, binary_back, struct_back, maybe_back}
 
 -- ---- logical types
 
@@ -87,7 +85,7 @@ module _ (leaf : LeafSchema) (fits : LeafFits leaf) (writable : IsWritableLeaf l
       let physical : optional i32 (pos 1) (w.fields_of t) ≡ Some (Some (pos leaf.physical)) = optional-table i32 (pos 1) t ∙ ap (option_map Some) (i32_back (pos leaf.physical) fits.physical) in
       let length : optional i32 (pos 2) (w.fields_of t) ≡ Some (w.told_length leaf.length) = optional-table i32 (pos 2) t ∙ maybe_i32_back (pos 2) (w.told_length leaf.length) fits.length in
       let repetition : optional i32 (pos 3) (w.fields_of t) ≡ Some (Some (pos (w.repetition_by leaf.optional leaf.repeated))) =
-        optional-table i32 (pos 3) t ∙ ap (option_map Some) (i32_back (pos (w.repetition_by leaf.optional leaf.repeated)) fits.repetition) in
+      optional-table i32 (pos 3) t ∙ ap (option_map Some) (i32_back (pos (w.repetition_by leaf.optional leaf.repeated)) fits.repetition) in
       let name : needed binary (pos 4) (w.fields_of t) ≡ Some leaf.name = needed-table binary (pos 4) t ∙ binary_back leaf.name in
       let children : optional i32 (pos 5) (w.fields_of t) ≡ Some None = optional-table i32 (pos 5) t in
       let converted : optional i32 (pos 6) (w.fields_of t) ≡ Some leaf.annotation.converted = optional-table i32 (pos 6) t ∙ maybe_i32_back (pos 6) leaf.annotation.converted fits.converted in
@@ -95,12 +93,19 @@ module _ (leaf : LeafSchema) (fits : LeafFits leaf) (writable : IsWritableLeaf l
       let precision : optional i32 (pos 8) (w.fields_of t) ≡ Some leaf.annotation.precision = optional-table i32 (pos 8) t ∙ maybe_i32_back (pos 8) leaf.annotation.precision fits.precision in
       let field_id : optional i32 (pos 9) (w.fields_of t) ≡ Some leaf.field_id = optional-table i32 (pos 9) t ∙ maybe_i32_back (pos 9) leaf.field_id fits.field_id in
       let logical : optional (struct logical_of) (pos 10) (w.fields_of t) ≡ Some (told_logical leaf.annotation.logical) =
-        optional-table (struct logical_of) (pos 10) t ∙ logical_back leaf.annotation.logical fits.logical writable.logical in
+      optional-table (struct logical_of) (pos 10) t ∙ logical_back leaf.annotation.logical fits.logical writable.logical in
       rw (physical, length, repetition, name, children, converted, scale, precision, field_id, logical, told-back leaf.annotation.logical) refl
 
 pub root_back : (count : ℕ) → FitsSigned w32 (pos count)
-    → element_of (w.fields_of (w.root_table count)) ≡ Some (record { physical = None; length = None; repetition = None; name = codes "schema"; children = Some (pos count); field_id = None;
-        annotation = record { converted = None; scale = None; precision = None; logical = logical.Absent } })
+    → element_of (w.fields_of (w.root_table count)) ≡ Some (record {
+      physical = None;
+      length = None;
+      repetition = None;
+      name = codes "schema";
+      children = Some (pos count);
+      field_id = None;
+      annotation = record { converted = None; scale = None; precision = None; logical = logical.Absent };
+    })
 root_back count fits = rw (n.outs-Binary (codes "schema"), i32_back (pos count) fits) refl
 
 -- ---- leaves
@@ -133,7 +138,7 @@ repeated-back false false = refl
 leaf_back : (leaf : LeafSchema) → IsWritableLeaf leaf → leaf_of true (leaf_element leaf) (leaf_element leaf) ≡ Some leaf
 leaf_back leaf is =
     rw (repetition_small leaf.optional leaf.repeated, le-leb leaf.physical 7 is.physical, told_length-back leaf.length, is.length, optional-back leaf.optional leaf.repeated is.single, repeated-back leaf.optional leaf.repeated)
-      (ap (λ (b : Bool). Some (record leaf { top = b })) (sym is.top))
+    (ap (λ (b : Bool). Some (record leaf { top = b })) (sym is.top))
 
 leaves_back : (owner : Element) (leaves : List LeafSchema) → AllByRecursion IsWritableLeaf leaves → leaves_of owner 0 (length leaves) (map leaf_element leaves) ≡ Some leaves
 leaves_back owner [] h = refl

@@ -1,9 +1,9 @@
 -- The leaves, element by element.
-use Rattle.std.proofs.Common.{◌≡◌, ℕ, zero, suc, ◌+◌, ◌-◌, ◌<◌, ◌≤◌, List, [], ◌∷◌, ◌++◌, length, get_or, drop, Bool, true, false, Option, Some, None, option_map, option_and_then, Ok, Err, refl, sym, ap, ◌∙◌, append_assoc, arith, drop-cons}
+use Rattle.std.proofs.Common.{◌≡◌, ℕ, zero, suc, ◌+◌, ◌<◌, ◌≤◌, List, [], ◌∷◌, ◌++◌, length, get_or, drop, Bool, true, false, Option, Some, None, option_map, option_and_then, Ok, Err, refl, sym, ap, ◌∙◌, append_assoc, arith, drop-cons}
 use Rattle.std.proofs.lemmas.List.{append-nil, drop_all}
 use Rattle.parquet_meta.specs.declared.elements.Element.{Element}
 use Rattle.parquet_meta.specs.declared.metadata.LeafSchema.{LeafSchema}
-use Rattle.parquet_meta.specs.declared.fault.MetaFault.TheVariants.{BadFooter, Memory}
+use Rattle.parquet_meta.specs.declared.fault.MetaFault.TheVariants.{BadFooter}
 use Rattle.parquet_meta.specs.Leaves.{count_of, own_leaves, joined, leaves_of, AddsOwn}
 
 bind_none : {A B : Type 0} (o : Option A) (f : A → Option B) → ((a : A) → f a ≡ None) → option_and_then f o ≡ None
@@ -47,6 +47,7 @@ entered_bad top owner e rest old new adds = by_count (count_of e.children) adds
   where
     by_own : (own : Option (List LeafSchema)) (more : Option (List LeafSchema)) → own ≡ None → joined old (option_and_then (λ leaves. joined leaves more) own) ≡ None
     by_own own more is = rw is refl
+
     by_count : (o : Option ℕ) → option_and_then (own_leaves top owner e) o ≡ None
         → joined old (option_and_then (λ children. option_and_then (λ own. joined own (rest children)) (own_leaves top owner e children)) o) ≡ None
     by_count None is = refl

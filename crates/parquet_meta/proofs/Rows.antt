@@ -66,7 +66,7 @@ module _ (left : ℤ) (g : RowGroup) (gs : List RowGroup) where
   past_one h = and_false (nonneg (g ∷ gs)) (int_eq (g.rows +ℤ total_rows gs) left) (λ all.
       let more : pos 0 ≤ℤ total_rows gs = total-nonneg gs (and_right (le_z (pos 0) g.rows) (nonneg gs) all) in
       not_true (int_eq (g.rows +ℤ total_rows gs) left) (λ same.
-        let e : g.rows +ℤ total_rows gs ≡ left = (Decides-int_eq (g.rows +ℤ total_rows gs) left).0 same in absurd (omega (arith, ints))))
+      let e : g.rows +ℤ total_rows gs ≡ left = (Decides-int_eq (g.rows +ℤ total_rows gs) left).0 same in absurd (omega (arith, ints))))
 
 module _ (groups : List RowGroup) (place : ℕ) (g : RowGroup) (stands : (place < length groups) × (g ≡ get_or groups place g)) (total : Bool) (left : ℤ)
     (known : total ≡ rows_add_up left (drop place groups)) where

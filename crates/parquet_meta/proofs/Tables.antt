@@ -1,14 +1,13 @@
 -- Look-ups in a struct that was made of a table.
-use Rattle.std.proofs.Common.{◌≡◌, ℕ, ◌≤◌, ◌<◌, List, [], ◌∷◌, ◌++◌, map, reverse, find, Bool, true, false, cond, Option, Some, None, option_map, option_and_then, refl, sym, ap, ◌∙◌, arith, ℤ, pos, negsuc}
-use Rattle.std.specs.Prelude.{IfSome, FitsSigned, ◌&&◌}
+use Rattle.std.proofs.Common.{◌≡◌, ℕ, List, [], ◌∷◌, ◌++◌, map, find, Bool, true, false, cond, Option, Some, None, option_map, option_and_then, refl, ap, ◌∙◌, arith, ℤ}
+use Rattle.std.specs.Prelude.{IfSome, FitsSigned}
 use Rattle.std.specs.Int.{w32}
 use Rattle.std.specs.List.{AllByRecursion}
 use Rattle.std.specs.Ordering.{int_eq}
 use Rattle.std.proofs.lemmas.Int.{ints}
 use Rattle.std.proofs.lemmas.List.{append-nil, reverse-append}
 use Rattle.thrift_compact.specs.Values.{id_of}
-use Rattle.thrift_compact.specs.declared.tree.Node.{Node, out-Node}
-use Rattle.thrift_compact.specs.declared.tree.Node.TheOpen.{Node-F}
+use Rattle.thrift_compact.specs.declared.tree.Node.{Node}
 use Rattle.thrift_compact.specs.declared.tree.Node.TheVariants as n
 use Rattle.thrift_compact.specs.declared.tree.Field.{Field}
 use Rattle.parquet_meta.specs.declared.forms.Shape.{Shape}

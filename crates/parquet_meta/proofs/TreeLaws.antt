@@ -1,6 +1,5 @@
 -- Trees in preorder, and their leaves as a function of the elements.
-use Rattle.std.proofs.Common.{◌≡◌, ℕ, zero, suc, ◌+◌, ◌<◌, ◌≤◌, List, [], ◌∷◌, ◌++◌, length, Bool, true, false, Option, Some, None, option_map, option_and_then, refl, sym, ap, ◌∙◌, subst, arith, append_assoc, length-append}
-use Rattle.std.proofs.lemmas.List.{append-nil}
+use Rattle.std.proofs.Common.{◌≡◌, ℕ, zero, suc, ◌+◌, ◌≤◌, List, [], ◌∷◌, ◌++◌, length, Bool, true, false, Option, Some, None, option_and_then, refl, sym, ap, ◌∙◌, subst, arith, append_assoc, length-append}
 use Rattle.parquet_meta.specs.declared.elements.Element.{Element}
 use Rattle.parquet_meta.specs.declared.metadata.LeafSchema.{LeafSchema}
 use Rattle.parquet_meta.specs.Leaves.{count_of, own_leaves, joined, leaves_of, schema_leaves}
@@ -28,7 +27,7 @@ inside_read owner _ _ _ (tree_inside e children more inner others own below late
     ∙ enter_known false owner e (λ c. leaves_of owner (c + (more + m)) outside ((inner ++ others) ++ rest)) children own a b
     ∙ ap (λ xs. joined own (leaves_of owner (children + (more + m)) outside xs)) (append_assoc inner others rest)
     ∙ ap (joined own) (inside_read owner children inner below in_e (more + m) outside (others ++ rest) ∙ ap (joined below) (inside_read owner more others later in_others m outside rest)
-      ∙ joined-joined below later (leaves_of owner m outside rest))
+    ∙ joined-joined below later (leaves_of owner m outside rest))
     ∙ joined-joined own (below ++ later) (leaves_of owner m outside rest)
 
 top_read : (owner : Element) (n : ℕ) (es : List Element) (ls : List LeafSchema) → AreTop n es ls → leaves_of owner 0 n es ≡ Some ls
@@ -60,9 +59,11 @@ entered top owner e rest ls is = by_count (count_of e.children) refl is
     by_rest : (children : ℕ) (own : List LeafSchema) (o : Option (List LeafSchema)) → count_of e.children ≡ Some children → own_leaves top owner e children ≡ Some own → rest children ≡ o → joined own o ≡ Some ls → Entered top owner e rest ls
     by_rest children own None a b c is = absurd cc
     by_rest children own (Some more) a b c is = let same : own ++ more ≡ ls = cc in record { children = children; own = own; more = more; counted = a; owned = b; left = c; all = sym same }
+
     by_own : (children : ℕ) (o : Option (List LeafSchema)) → count_of e.children ≡ Some children → own_leaves top owner e children ≡ o → option_and_then (λ own. joined own (rest children)) o ≡ Some ls → Entered top owner e rest ls
     by_own children None a b is = absurd cc
     by_own children (Some own) a b is = by_rest children own (rest children) a b refl is
+
     by_count : (o : Option ℕ) → count_of e.children ≡ o → option_and_then (λ children. option_and_then (λ own. joined own (rest children)) (own_leaves top owner e children)) o ≡ Some ls → Entered top owner e rest ls
     by_count None a is = absurd cc
     by_count (Some children) a is = by_own children (own_leaves top owner e children) a refl is
@@ -148,7 +149,7 @@ top (suc bound) owner (suc n) (e ∷ es) ls small is =
     let all : own_more x.own r.own r.more ≡ ls = sym (x.all ∙ ap (λ xs. x.own ++ xs) r.leaves) in
     let elements : e ∷ (r.front ++ r.back) ≡ e ∷ es = ap (λ xs. e ∷ xs) (sym r.elements) in
     subst (λ (xs : List LeafSchema). AreTop (suc n) (e ∷ es) xs) all (subst (λ (xs : List Element). AreTop (suc n) xs (own_more x.own r.own r.more)) elements
-      (tree_at_top e x.children n r.front r.back x.own r.own r.more x.counted x.owned r.trees others))
+    (tree_at_top e x.children n r.front r.back x.own r.own r.more x.counted x.owned r.trees others))
 
 pub schema_found : (elements : List Element) (ls : List LeafSchema) → schema_leaves elements ≡ Some ls → IsSchema elements ls
 schema_found [] ls is = absurd cc

@@ -1,5 +1,5 @@
 -- The leaves of a schema, whose elements are those of a tree in preorder by num_children (parquet.thrift, FileMetaData.schema).
-use Rattle.std.specs.Prelude.{◌≡◌, ℕ, zero, suc, ℤ, pos, negsuc, ◌+◌, ◌==◌, ◌&&◌, nat_lt, nat_le, Bool, true, false, if◌then◌else◌, List, [], ◌∷◌, ◌++◌, Option, Some, None, option_map, unwrap_or, ⊤, Result, Ok, Err}
+use Rattle.std.specs.Prelude.{◌≡◌, ℕ, zero, suc, ℤ, pos, negsuc, ◌+◌, ◌==◌, nat_lt, nat_le, Bool, true, false, if◌then◌else◌, List, [], ◌∷◌, ◌++◌, Option, Some, None, option_map, unwrap_or, ⊤, Result, Ok, Err}
 use Rattle.dm_types.specs.Then.{◌>>=◌}
 use Rattle.parquet_meta.specs.declared.fault.MetaFault.{MetaFault}
 use Rattle.parquet_meta.specs.declared.fault.MetaFault.TheVariants.{BadFooter, Memory}
@@ -27,8 +27,16 @@ abbrev pub leaf_of : Bool → Element → Element → Option LeafSchema
 leaf_of top owner e = do
   repetition ← e.repetition >>= up_to 2
   physical ← e.physical >>= up_to 7
-  if is_long_enough physical (unwrap_or e.length (pos 0)) then Some (record { name = owner.name; top = top; physical = physical; length = unwrap_or e.length (pos 0);
-    optional = repetition == 1; repeated = repetition == 2; annotation = e.annotation; field_id = owner.field_id }) else None
+  if is_long_enough physical (unwrap_or e.length (pos 0)) then Some (record {
+    name = owner.name;
+    top = top;
+    physical = physical;
+    length = unwrap_or e.length (pos 0);
+    optional = repetition == 1;
+    repeated = repetition == 2;
+    annotation = e.annotation;
+    field_id = owner.field_id;
+  }) else None
 
 -- the leaf that an element of so many children is, or none, where it is a group
 abbrev pub own_leaves : Bool → Element → Element → ℕ → Option (List LeafSchema)

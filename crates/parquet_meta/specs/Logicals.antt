@@ -1,5 +1,5 @@
 -- What a logical type says (parquet.thrift, LogicalType). A union should have one member; of those that are known the last in the bytes counts.
-use Rattle.std.specs.Prelude.{ℕ, ℤ, pos, Bool, if◌then◌else◌, List, [], ◌∷◌, Option, Some, None, unwrap_or}
+use Rattle.std.specs.Prelude.{ℕ, ℤ, pos, if◌then◌else◌, List, [], ◌∷◌, Option, Some, None, unwrap_or}
 use Rattle.std.specs.Ordering.{int_eq}
 use Rattle.dm_types.specs.Then.{◌>>=◌}
 use Rattle.thrift_compact.specs.declared.tree.Field.{Field}
@@ -9,13 +9,13 @@ use Rattle.parquet_meta.specs.declared.metadata.Logical.TheVariants as logical
 use Rattle.parquet_meta.specs.declared.logical_types.DecimalType.{DecimalType}
 use Rattle.parquet_meta.specs.declared.logical_types.TimeUnit.{TimeUnit}
 use Rattle.parquet_meta.specs.declared.logical_types.TimestampType.{TimestampType}
-use Rattle.parquet_meta.specs.Forms.{needed, optional, checked, last_among, i32, struct}
+use Rattle.parquet_meta.specs.Forms.{optional, checked, last_among, i32, struct}
 
 -- DecimalType
 abbrev pub decimal_of : List Field → Option DecimalType
 decimal_of t = do
-  scale ← optional i32 (pos 1) t            -- 1 scale
-  precision ← checked shape.I32 (pos 2) t   -- 2 precision
+  scale ← optional i32 (pos 1) t  -- 1 scale
+  precision ← checked shape.I32 (pos 2) t  -- 2 precision
   Some (record { scale = unwrap_or scale (pos 0) })
 
 -- the member of a TimeUnit as a number, 0 where none is known
@@ -26,9 +26,9 @@ unit_by (Some id) = if int_eq id (pos 1) then 1 else if int_eq id (pos 2) then 2
 -- TimeUnit
 abbrev pub unit_of : List Field → Option TimeUnit
 unit_of t = do
-  millis ← checked shape.Struct (pos 1) t   -- 1 MILLIS
-  micros ← checked shape.Struct (pos 2) t   -- 2 MICROS
-  nanos ← checked shape.Struct (pos 3) t    -- 3 NANOS
+  millis ← checked shape.Struct (pos 1) t  -- 1 MILLIS
+  micros ← checked shape.Struct (pos 2) t  -- 2 MICROS
+  nanos ← checked shape.Struct (pos 3) t  -- 3 NANOS
   Some (record { number = unit_by (last_among (pos 1 ∷ pos 2 ∷ pos 3 ∷ []) t) })
 
 abbrev pub number_of : Option TimeUnit → ℕ
@@ -38,8 +38,8 @@ number_of (Some unit) = unit.number
 -- TimestampType
 abbrev pub timestamp_of : List Field → Option TimestampType
 timestamp_of t = do
-  adjusted ← checked shape.Bool (pos 1) t        -- 1 isAdjustedToUTC
-  unit ← optional (struct unit_of) (pos 2) t     -- 2 unit
+  adjusted ← checked shape.Bool (pos 1) t  -- 1 isAdjustedToUTC
+  unit ← optional (struct unit_of) (pos 2) t  -- 2 unit
   Some (record { unit = number_of unit })
 
 abbrev pub scale_of : Option DecimalType → ℤ
@@ -62,8 +62,8 @@ logical_by (Some id) decimal timestamp =
 -- LogicalType
 abbrev pub logical_of : List Field → Option Logical
 logical_of t = do
-  str ← checked shape.Struct (pos 1) t                      -- 1 STRING
-  decimal ← optional (struct decimal_of) (pos 5) t          -- 5 DECIMAL
-  date ← checked shape.Struct (pos 6) t                     -- 6 DATE
-  timestamp ← optional (struct timestamp_of) (pos 8) t      -- 8 TIMESTAMP
+  str ← checked shape.Struct (pos 1) t  -- 1 STRING
+  decimal ← optional (struct decimal_of) (pos 5) t  -- 5 DECIMAL
+  date ← checked shape.Struct (pos 6) t  -- 6 DATE
+  timestamp ← optional (struct timestamp_of) (pos 8) t  -- 8 TIMESTAMP
   Some (logical_by (last_among (pos 1 ∷ pos 5 ∷ pos 6 ∷ pos 8 ∷ []) t) decimal timestamp)

@@ -1,5 +1,5 @@
 -- What a footer says (parquet.thrift, FileMetaData), and which bytes are one.
-use Rattle.std.specs.Prelude.{ℕ, ℤ, pos, ◌+ℤ◌, ◌==◌, ◌&&◌, not, Bool, true, false, if◌then◌else◌, List, [], ◌∷◌, length, zip, Option, Some, None, Result, Ok, Err}
+use Rattle.std.specs.Prelude.{ℕ, ℤ, pos, ◌+ℤ◌, ◌==◌, ◌&&◌, not, Bool, if◌then◌else◌, List, [], ◌∷◌, length, zip, Option, Some, None, Result, Ok, Err}
 use Rattle.std.specs.List.{list_all}
 use Rattle.std.specs.Ordering.{int_eq}
 use Rattle.std.specs.Int.Signed.{le_z}
@@ -12,7 +12,7 @@ use Rattle.parquet_meta.specs.declared.metadata.ChunkMeta.{ChunkMeta}
 use Rattle.parquet_meta.specs.declared.metadata.RowGroup.{RowGroup}
 use Rattle.parquet_meta.specs.declared.metadata.Footer.{Footer}
 use Rattle.parquet_meta.specs.declared.headers.PageHeader.{PageHeader}
-use Rattle.parquet_meta.specs.Forms.{needed, optional, checked, i32, i64, list, struct}
+use Rattle.parquet_meta.specs.Forms.{needed, checked, i32, i64, list, struct}
 use Rattle.parquet_meta.specs.Headers.{header_of}
 use Rattle.parquet_meta.specs.Elements.{element_of}
 use Rattle.parquet_meta.specs.Leaves.{schema_leaves}
@@ -41,13 +41,13 @@ groups_fit rows leaves groups = list_all (has_chunks leaves) groups && rows_add_
 -- FileMetaData
 abbrev pub footer_of : List Field → Option Footer
 footer_of t = do
-  version ← needed i32 (pos 1) t                             -- 1 version
-  elements ← needed (list (struct element_of)) (pos 2) t     -- 2 schema
-  rows ← needed i64 (pos 3) t                                -- 3 num_rows
-  groups ← needed (list (struct group_of)) (pos 4) t         -- 4 row_groups
-  pairs ← checked shape.Structs (pos 5) t                    -- 5 key_value_metadata
-  writer ← checked shape.Binary (pos 6) t                    -- 6 created_by
-  orders ← checked shape.Structs (pos 7) t                   -- 7 column_orders
+  version ← needed i32 (pos 1) t  -- 1 version
+  elements ← needed (list (struct element_of)) (pos 2) t  -- 2 schema
+  rows ← needed i64 (pos 3) t  -- 3 num_rows
+  groups ← needed (list (struct group_of)) (pos 4) t  -- 4 row_groups
+  pairs ← checked shape.Structs (pos 5) t  -- 5 key_value_metadata
+  writer ← checked shape.Binary (pos 6) t  -- 6 created_by
+  orders ← checked shape.Structs (pos 7) t  -- 7 column_orders
   leaves ← schema_leaves elements
   if groups_fit rows leaves groups then Some (record { rows = rows; leaves = leaves; groups = groups }) else None
 

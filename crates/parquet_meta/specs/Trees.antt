@@ -1,8 +1,8 @@
 -- Schemas as trees in preorder (parquet.thrift, FileMetaData.schema): a group is followed by as many trees as it has children.
-use Rattle.std.specs.Prelude.{◌≡◌, ℕ, zero, suc, Bool, true, false, List, [], ◌∷◌, ◌++◌, Option, Some}
+use Rattle.std.specs.Prelude.{◌≡◌, ℕ, suc, true, false, List, [], ◌∷◌, ◌++◌, Some}
 use Rattle.parquet_meta.specs.declared.elements.Element.{Element}
 use Rattle.parquet_meta.specs.declared.metadata.LeafSchema.{LeafSchema}
-use Rattle.parquet_meta.specs.Leaves.{count_of, leaf_of, own_leaves}
+use Rattle.parquet_meta.specs.Leaves.{count_of, own_leaves}
 
 -- so many trees one after another below the top-level element `owner`, and their leaves
 pub data AreInside (owner : Element) : ℕ → List Element → List LeafSchema → Type 0 where

@@ -1,5 +1,5 @@
 -- Which footers are written, and what a type keeps of its numbers.
-use Rattle.std.specs.Prelude.{◌≡◌, ⊤, ℤ, pos, ◌<◌, ◌≤◌, ◌^◌, true, false, ◌&&◌, length, IfSome, FitsSigned}
+use Rattle.std.specs.Prelude.{◌≡◌, ⊤, pos, ◌<◌, ◌≤◌, ◌^◌, true, false, ◌&&◌, length, IfSome, FitsSigned}
 use Rattle.std.specs.Int.{w32, w64}
 use Rattle.std.specs.List.{AllByRecursion}
 use Rattle.parquet_meta.specs.declared.headers.PageHeader.{PageHeader}

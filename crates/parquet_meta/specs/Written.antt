@@ -1,5 +1,5 @@
 -- The trees that are written. Each line of a table is a field, with its id, and its name in parquet.thrift behind it.
-use Rattle.std.specs.Prelude.{ℕ, zero, suc, ℤ, pos, ◌==◌, Bool, true, false, if◌then◌else◌, List, [], ◌∷◌, ◌++◌, length, map, codes, Option, Some, None, option_map}
+use Rattle.std.specs.Prelude.{ℕ, ℤ, pos, ◌==◌, Bool, if◌then◌else◌, List, [], ◌∷◌, ◌++◌, length, map, codes, Option, Some, None, option_map}
 use Rattle.std.specs.Ordering.{int_eq}
 use Rattle.thrift_compact.specs.declared.tree.Node.{Node}
 use Rattle.thrift_compact.specs.declared.tree.Node.TheVariants as n
@@ -60,39 +60,39 @@ nodes ns = (0, n.List ns)
 -- DataPageHeader
 abbrev pub page_table : PageV1 → List (ℤ × Option (ℕ × Node))
 page_table p =
-    (pos 1, Some (whole_32 p.values))         -- 1 num_values
-    ∷ (pos 2, Some (whole_32 p.encoding))     -- 2 encoding
-    ∷ (pos 3, Some (whole_32 p.definition))   -- 3 definition_level_encoding
-    ∷ (pos 4, Some (whole_32 p.repetition))   -- 4 repetition_level_encoding
+    (pos 1, Some (whole_32 p.values))  -- 1 num_values
+    ∷ (pos 2, Some (whole_32 p.encoding))  -- 2 encoding
+    ∷ (pos 3, Some (whole_32 p.definition))  -- 3 definition_level_encoding
+    ∷ (pos 4, Some (whole_32 p.repetition))  -- 4 repetition_level_encoding
     ∷ []
 
 -- DictionaryPageHeader
 abbrev pub dictionary_table : DictionaryPage → List (ℤ × Option (ℕ × Node))
 dictionary_table p =
-    (pos 1, Some (whole_32 p.values))       -- 1 num_values
-    ∷ (pos 2, Some (whole_32 p.encoding))   -- 2 encoding
+    (pos 1, Some (whole_32 p.values))  -- 1 num_values
+    ∷ (pos 2, Some (whole_32 p.encoding))  -- 2 encoding
     ∷ []
 
 -- DataPageHeaderV2
 abbrev pub page_v2_table : PageV2 → List (ℤ × Option (ℕ × Node))
 page_v2_table p =
-    (pos 1, Some (whole_32 p.values))               -- 1 num_values
-    ∷ (pos 2, Some (whole_32 p.nulls))              -- 2 num_nulls
-    ∷ (pos 3, Some (whole_32 p.rows))               -- 3 num_rows
-    ∷ (pos 4, Some (whole_32 p.encoding))           -- 4 encoding
-    ∷ (pos 5, Some (whole_32 p.definition_bytes))   -- 5 definition_levels_byte_length
-    ∷ (pos 6, Some (whole_32 p.repetition_bytes))   -- 6 repetition_levels_byte_length
+    (pos 1, Some (whole_32 p.values))  -- 1 num_values
+    ∷ (pos 2, Some (whole_32 p.nulls))  -- 2 num_nulls
+    ∷ (pos 3, Some (whole_32 p.rows))  -- 3 num_rows
+    ∷ (pos 4, Some (whole_32 p.encoding))  -- 4 encoding
+    ∷ (pos 5, Some (whole_32 p.definition_bytes))  -- 5 definition_levels_byte_length
+    ∷ (pos 6, Some (whole_32 p.repetition_bytes))  -- 6 repetition_levels_byte_length
     ∷ []
 
 -- PageHeader
 abbrev pub header_table : PageHeader → List (ℤ × Option (ℕ × Node))
 header_table h =
-    (pos 1, Some (whole_32 h.kind))                                           -- 1 type
-    ∷ (pos 2, Some (whole_32 h.unpacked))                                     -- 2 uncompressed_page_size
-    ∷ (pos 3, Some (whole_32 h.packed))                                       -- 3 compressed_page_size
-    ∷ (pos 5, option_map (λ p. struct (page_table p)) h.page)                 -- 5 data_page_header
-    ∷ (pos 7, option_map (λ p. struct (dictionary_table p)) h.dictionary)     -- 7 dictionary_page_header
-    ∷ (pos 8, option_map (λ p. struct (page_v2_table p)) h.page_v2)           -- 8 data_page_header_v2
+    (pos 1, Some (whole_32 h.kind))  -- 1 type
+    ∷ (pos 2, Some (whole_32 h.unpacked))  -- 2 uncompressed_page_size
+    ∷ (pos 3, Some (whole_32 h.packed))  -- 3 compressed_page_size
+    ∷ (pos 5, option_map (λ p. struct (page_table p)) h.page)  -- 5 data_page_header
+    ∷ (pos 7, option_map (λ p. struct (dictionary_table p)) h.dictionary)  -- 7 dictionary_page_header
+    ∷ (pos 8, option_map (λ p. struct (page_v2_table p)) h.page_v2)  -- 8 data_page_header_v2
     ∷ []
 
 -- the fields of a page header that is written
@@ -125,22 +125,22 @@ repetition_by optional repeated = if repeated then 2 else if optional then 1 els
 -- SchemaElement of a leaf
 abbrev pub leaf_table : LeafSchema → List (ℤ × Option (ℕ × Node))
 leaf_table leaf =
-    (pos 1, Some (whole_32 (pos leaf.physical)))                 -- 1 type
-    ∷ (pos 2, option_map whole_32 (told_length leaf.length))     -- 2 type_length
-    ∷ (pos 3, Some (whole_32 (pos (repetition_by leaf.optional leaf.repeated))))        -- 3 repetition_type
-    ∷ (pos 4, Some (bytes leaf.name))                            -- 4 name
-    ∷ (pos 6, option_map whole_32 leaf.annotation.converted)     -- 6 converted_type
-    ∷ (pos 7, option_map whole_32 leaf.annotation.scale)         -- 7 scale
-    ∷ (pos 8, option_map whole_32 leaf.annotation.precision)     -- 8 precision
-    ∷ (pos 9, option_map whole_32 leaf.field_id)                 -- 9 field_id
-    ∷ (pos 10, logical_content leaf.annotation.logical)          -- 10 logicalType
+    (pos 1, Some (whole_32 (pos leaf.physical)))  -- 1 type
+    ∷ (pos 2, option_map whole_32 (told_length leaf.length))  -- 2 type_length
+    ∷ (pos 3, Some (whole_32 (pos (repetition_by leaf.optional leaf.repeated))))  -- 3 repetition_type
+    ∷ (pos 4, Some (bytes leaf.name))  -- 4 name
+    ∷ (pos 6, option_map whole_32 leaf.annotation.converted)  -- 6 converted_type
+    ∷ (pos 7, option_map whole_32 leaf.annotation.scale)  -- 7 scale
+    ∷ (pos 8, option_map whole_32 leaf.annotation.precision)  -- 8 precision
+    ∷ (pos 9, option_map whole_32 leaf.field_id)  -- 9 field_id
+    ∷ (pos 10, logical_content leaf.annotation.logical)  -- 10 logicalType
     ∷ []
 
 -- SchemaElement of the root
 abbrev pub root_table : ℕ → List (ℤ × Option (ℕ × Node))
 root_table count =
-    (pos 4, Some (bytes (codes "schema")))     -- 4 name
-    ∷ (pos 5, Some (whole_32 (pos count)))     -- 5 num_children
+    (pos 4, Some (bytes (codes "schema")))  -- 4 name
+    ∷ (pos 5, Some (whole_32 (pos count)))  -- 5 num_children
     ∷ []
 
 -- ---- chunks and footers
@@ -155,40 +155,40 @@ whole_list zs = (whole_width zs, n.List (map n.Whole zs))
 -- ColumnMetaData
 abbrev pub column_table : ChunkMeta → List (ℤ × Option (ℕ × Node))
 column_table c =
-    (pos 1, Some (whole_32 c.physical))                     -- 1 type
-    ∷ (pos 2, Some (whole_list c.encodings))                -- 2 encodings
-    ∷ (pos 3, Some (nodes (map n.Binary c.path)))           -- 3 path_in_schema
-    ∷ (pos 4, Some (whole_32 c.codec))                      -- 4 codec
-    ∷ (pos 5, Some (whole_64 c.values))                     -- 5 num_values
-    ∷ (pos 6, Some (whole_64 c.unpacked))                   -- 6 total_uncompressed_size
-    ∷ (pos 7, Some (whole_64 c.packed))                     -- 7 total_compressed_size
-    ∷ (pos 9, Some (whole_64 c.page_at))                    -- 9 data_page_offset
-    ∷ (pos 11, option_map whole_64 c.dictionary_at)         -- 11 dictionary_page_offset
+    (pos 1, Some (whole_32 c.physical))  -- 1 type
+    ∷ (pos 2, Some (whole_list c.encodings))  -- 2 encodings
+    ∷ (pos 3, Some (nodes (map n.Binary c.path)))  -- 3 path_in_schema
+    ∷ (pos 4, Some (whole_32 c.codec))  -- 4 codec
+    ∷ (pos 5, Some (whole_64 c.values))  -- 5 num_values
+    ∷ (pos 6, Some (whole_64 c.unpacked))  -- 6 total_uncompressed_size
+    ∷ (pos 7, Some (whole_64 c.packed))  -- 7 total_compressed_size
+    ∷ (pos 9, Some (whole_64 c.page_at))  -- 9 data_page_offset
+    ∷ (pos 11, option_map whole_64 c.dictionary_at)  -- 11 dictionary_page_offset
     ∷ []
 
 -- ColumnChunk
 abbrev pub chunk_table : ChunkMeta → List (ℤ × Option (ℕ × Node))
 chunk_table c =
-    (pos 2, Some (whole_64 (pos 0)))              -- 2 file_offset
-    ∷ (pos 3, Some (struct (column_table c)))     -- 3 meta_data
+    (pos 2, Some (whole_64 (pos 0)))  -- 2 file_offset
+    ∷ (pos 3, Some (struct (column_table c)))  -- 3 meta_data
     ∷ []
 
 -- RowGroup
 abbrev pub group_table : RowGroup → List (ℤ × Option (ℕ × Node))
 group_table g =
-    (pos 1, Some (nodes (map (λ c. inner (chunk_table c)) g.chunks)))   -- 1 columns
-    ∷ (pos 2, Some (whole_64 g.bytes))                                  -- 2 total_byte_size
-    ∷ (pos 3, Some (whole_64 g.rows))                                   -- 3 num_rows
+    (pos 1, Some (nodes (map (λ c. inner (chunk_table c)) g.chunks)))  -- 1 columns
+    ∷ (pos 2, Some (whole_64 g.bytes))  -- 2 total_byte_size
+    ∷ (pos 3, Some (whole_64 g.rows))  -- 3 num_rows
     ∷ []
 
 -- FileMetaData
 abbrev pub footer_table : Footer → List (ℤ × Option (ℕ × Node))
 footer_table f =
-    (pos 1, Some (whole_32 (pos 1)))                                                                                 -- 1 version
+    (pos 1, Some (whole_32 (pos 1)))  -- 1 version
     ∷ (pos 2, Some (nodes (inner (root_table (length f.leaves)) ∷ map (λ leaf. inner (leaf_table leaf)) f.leaves)))  -- 2 schema
-    ∷ (pos 3, Some (whole_64 f.rows))                                                                                -- 3 num_rows
-    ∷ (pos 4, Some (nodes (map (λ g. inner (group_table g)) f.groups)))                                              -- 4 row_groups
-    ∷ (pos 6, Some (bytes (codes "deltamerge")))                                                                     -- 6 created_by
+    ∷ (pos 3, Some (whole_64 f.rows))  -- 3 num_rows
+    ∷ (pos 4, Some (nodes (map (λ g. inner (group_table g)) f.groups)))  -- 4 row_groups
+    ∷ (pos 6, Some (bytes (codes "deltamerge")))  -- 6 created_by
     ∷ []
 
 -- the fields of a footer that is written

@@ -14,7 +14,9 @@ use thrift_compact::{Field, Node, Nodes, Tree};
 /// What a field or an element is written as.
 pub(crate) trait Written {
     ghost width: { ℕ };
+
     ghost written: { Self → ANode };
+
     ghost fits: { Self → Type 0 };
 
     fn width() -> u8
@@ -96,7 +98,9 @@ pub(crate) fn put_list<T: Written>(
 
 impl Written for Bytes {
     ghost width = { 0 };
+
     ghost written = { n.Binary };
+
     ghost fits = { λ _. Unit {0} };
 
     fn width() -> u8 {
@@ -110,7 +114,9 @@ impl Written for Bytes {
 
 impl Written for i32 {
     ghost width = { 32 };
+
     ghost written = { n.Whole };
+
     ghost fits = { FitsSigned w32 };
 
     fn width() -> u8 {
@@ -124,7 +130,9 @@ impl Written for i32 {
 
 impl Written for i64 {
     ghost width = { 64 };
+
     ghost written = { n.Whole };
+
     ghost fits = { FitsSigned w64 };
 
     fn width() -> u8 {

@@ -5,7 +5,9 @@ ghost use Rattle.parquet_meta.specs.Forms.{struct, list as list_of, i32 as i32_o
 ghost use Rattle.parquet_meta.specs.Chunks.{column_of, chunk_of, group_of};
 
 use crate::fault::MetaFault;
-use crate::forms::{Form, Shape, checked, is_there, needed, needed_list, needed_struct, optional, struct_in};
+use crate::forms::{
+    Form, Shape, checked, is_there, needed, needed_list, needed_struct, optional, struct_in,
+};
 use crate::metadata::{ChunkMeta, RowGroup};
 use dm_types::{Items, WholeList};
 use std::alloc::{AllocError, Global};

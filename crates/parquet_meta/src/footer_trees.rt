@@ -24,12 +24,7 @@ fn binary(alloc: Global, bytes: &[u8]) -> Result<Node, AllocError>
 }
 
 /// A list of whole numbers of 32 bits.
-fn put_wholes(
-    alloc: Global,
-    tree: &mut Tree,
-    id: i16,
-    wholes: &[i64],
-) -> Result<(), AllocError>
+fn put_wholes(alloc: Global, tree: &mut Tree, id: i16, wholes: &[i64]) -> Result<(), AllocError>
     ensures { OnOk result (tree.new ≡ tree.old ++ entry id (Some (whole_list wholes.now))) }
 {
     let mut nodes = Items::new(alloc);
@@ -58,7 +53,9 @@ fn column_tree(alloc: Global, chunk: &ChunkMeta) -> Result<Tree, AllocError>
 
 impl Written for ChunkMeta {
     ghost width = { 0 };
+
     ghost written = { λ chunk. inner (chunk_table chunk) };
+
     ghost fits = { ChunkFits };
 
     fn width() -> u8 {
@@ -76,7 +73,9 @@ impl Written for ChunkMeta {
 
 impl Written for RowGroup {
     ghost width = { 0 };
+
     ghost written = { λ group. inner (group_table group) };
+
     ghost fits = { GroupFits };
 
     fn width() -> u8 {

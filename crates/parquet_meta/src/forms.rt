@@ -47,7 +47,11 @@ fn last(tree: &Tree, id: i16) -> Option<&Field>
 pub(crate) fn last_among(tree: &Tree, ids: &[i16]) -> Option<i16>
     ensures { result ≡ id_among ids.now tree.now }
 {
-    tree.as_slice().iter().rev().map(|field| field.id).find(|id| ids.contains(id))
+    tree.as_slice()
+        .iter()
+        .rev()
+        .map(|field| field.id)
+        .find(|id| ids.contains(id))
 }
 
 /// A field that must be there.
@@ -61,11 +65,7 @@ pub(crate) fn needed<T: Form>(alloc: Global, tree: &Tree, id: i16) -> Result<T, 
 }
 
 /// A field that may be absent.
-pub(crate) fn optional<T: Form>(
-    alloc: Global,
-    tree: &Tree,
-    id: i16,
-) -> Result<Option<T>, MetaFault>
+pub(crate) fn optional<T: Form>(alloc: Global, tree: &Tree, id: i16) -> Result<Option<T>, MetaFault>
     ensures { Gives (optional_of T.form id tree.now) result }
 {
     match last(tree, id) {

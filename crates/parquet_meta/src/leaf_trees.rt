@@ -88,7 +88,9 @@ fn repetition(optional: bool, repeated: bool) -> i32
 
 impl Written for LeafSchema {
     ghost width = { 0 };
+
     ghost written = { λ leaf. inner (leaf_table leaf) };
+
     ghost fits = { LeafFits };
 
     fn width() -> u8 {
@@ -99,7 +101,12 @@ impl Written for LeafSchema {
         let mut tree = Items::new(alloc);
         put(alloc, &mut tree, 1, &i32::from(self.physical))?;
         put_maybe(alloc, &mut tree, 2, &told_length(self.length))?;
-        put(alloc, &mut tree, 3, &repetition(self.optional, self.repeated))?;
+        put(
+            alloc,
+            &mut tree,
+            3,
+            &repetition(self.optional, self.repeated),
+        )?;
         put(alloc, &mut tree, 4, &self.name)?;
         put_maybe(alloc, &mut tree, 6, &self.annotation.converted)?;
         put_maybe(alloc, &mut tree, 7, &self.annotation.scale)?;

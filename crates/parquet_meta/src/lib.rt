@@ -19,8 +19,8 @@ mod reading;
 mod writing;
 
 pub use fault::{Memory, MetaFault};
-pub use laws::{footers_are_read, page_headers_are_read, schemas_are_trees};
 pub use headers::{DictionaryPage, PageHeader, PageV1, PageV2};
+pub use laws::{footers_are_read, page_headers_are_read, schemas_are_trees};
 pub use metadata::{
     Annotation, ChunkList, ChunkMeta, Footer, GroupList, LeafList, LeafSchema, Logical, Names,
     RowGroup,

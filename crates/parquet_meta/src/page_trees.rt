@@ -11,7 +11,9 @@ use thrift_compact::{Node, Tree};
 
 impl Written for PageV1 {
     ghost width = { 0 };
+
     ghost written = { λ p. inner (page_table p) };
+
     ghost fits = { PageFits };
 
     fn width() -> u8 {
@@ -30,7 +32,9 @@ impl Written for PageV1 {
 
 impl Written for DictionaryPage {
     ghost width = { 0 };
+
     ghost written = { λ p. inner (dictionary_table p) };
+
     ghost fits = { DictionaryFits };
 
     fn width() -> u8 {
@@ -47,7 +51,9 @@ impl Written for DictionaryPage {
 
 impl Written for PageV2 {
     ghost width = { 0 };
+
     ghost written = { λ p. inner (page_v2_table p) };
+
     ghost fits = { PageV2Fits };
 
     fn width() -> u8 {

@@ -24,7 +24,10 @@ fn is_chunk(chunk: &ChunkMeta, leaf: &LeafSchema) -> bool
 fn are_chunks(chunks: &[ChunkMeta], leaves: &[LeafSchema]) -> bool
     ensures { result ≡ list_all is_chunk_of (zip chunks.now leaves.now) }
 {
-    chunks.iter().zip(leaves.iter()).all(|(chunk, leaf)| is_chunk(chunk, leaf))
+    chunks
+        .iter()
+        .zip(leaves.iter())
+        .all(|(chunk, leaf)| is_chunk(chunk, leaf))
 }
 
 /// Whether the row group has one chunk for each leaf, in order.

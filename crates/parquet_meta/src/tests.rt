@@ -1,7 +1,5 @@
 // Footers and page headers spelled by hand after parquet.thrift, and bytes that are neither.
-use crate::{
-    MetaFault, PageHeader, PageV1, read_footer, read_page_header, write_page_header,
-};
+use crate::{MetaFault, PageHeader, PageV1, read_footer, read_page_header, write_page_header};
 use dm_types::Items;
 use std::test::Fail;
 

@@ -1,4 +1,4 @@
-use Rattle.std.proofs.Common.{◌≡◌, ◌++◌, length, Ok, subst, sym, ap, ◌∙◌, List, [], ℕ}
+use Rattle.std.proofs.Common.{◌≡◌, ◌++◌, length, Ok, subst, sym, ap, ◌∙◌, List, []}
 use Rattle.std.proofs.lemmas.List.{append-nil}
 use Rattle.thrift_compact.specs.Reading.{read}
 use Rattle.thrift_compact.specs.Written as wt
@@ -12,9 +12,15 @@ use Rattle.parquet_meta.proofs.writing.write_footer.Goals as goal
 
 pub write_struct-requires : goal.write_struct-requires
 write_struct-requires c =
-    let law : WritableValues = record { whole = c.writable_values.ensures.whole; binary = c.writable_values.ensures.binary; structs = c.writable_values.ensures.structs; lists = c.writable_values.ensures.lists; whole_element = c.writable_values.ensures.whole_element; 
+    let law : WritableValues = record {
+      whole = c.writable_values.ensures.whole;
+      binary = c.writable_values.ensures.binary;
+      structs = c.writable_values.ensures.structs;
+      lists = c.writable_values.ensures.lists;
+      whole_element = c.writable_values.ensures.whole_element;
       binary_element = λ left bytes. rw (c.writable_values.ensures.binary_element left []).same (c.writable_values.ensures.binary_element left bytes);
-      struct_element = λ left fields are. rw (c.writable_values.ensures.struct_element left [] tt).same (c.writable_values.ensures.struct_element left fields are) } in
+      struct_element = λ left fields are. rw (c.writable_values.ensures.struct_element left [] tt).same (c.writable_values.ensures.struct_element left fields are);
+    } in
     let same : c.in_ok-tree.tree ≡ w.footer_fields c.args.footer.now = c.in_ok-tree.ensures.fields in
     subst IsWritable (sym same) (footer_writable law c.args.footer.now c.in_ok-tree.ensures.range c.requires)
 
@@ -22,5 +28,5 @@ pub returns-in-Ok-clause-again : goal.returns-in-Ok-clause-again
 returns-in-Ok-clause-again c =
     let same : c.in_ok-tree.tree ≡ w.footer_fields c.args.footer.now = c.in_ok-tree.ensures.fields in
     let known : read (wt.struct (w.footer_fields c.args.footer.now) ++ []) ≡ Ok (w.footer_fields c.args.footer.now, length (wt.struct (w.footer_fields c.args.footer.now))) =
-      subst (λ (t : List Field). read (wt.struct t ++ []) ≡ Ok (t, length (wt.struct t))) same (c.in-Ok.ensures.again []) in
+    subst (λ (t : List Field). read (wt.struct t ++ []) ≡ Ok (t, length (wt.struct t))) same (c.in-Ok.ensures.again []) in
     whole_back c.args.footer.now (wt.struct (w.footer_fields c.args.footer.now)) c.in_ok-tree.ensures.range c.requires (ap read (sym (append-nil (wt.struct (w.footer_fields c.args.footer.now)))) ∙ known)

@@ -10,9 +10,15 @@ use Rattle.parquet_meta.proofs.writing.write_page_header.Goals as goal
 
 pub write_struct-requires : goal.write_struct-requires
 write_struct-requires c =
-    let law : WritableValues = record { whole = c.writable_values.ensures.whole; binary = c.writable_values.ensures.binary; structs = c.writable_values.ensures.structs; lists = c.writable_values.ensures.lists; whole_element = c.writable_values.ensures.whole_element; 
+    let law : WritableValues = record {
+      whole = c.writable_values.ensures.whole;
+      binary = c.writable_values.ensures.binary;
+      structs = c.writable_values.ensures.structs;
+      lists = c.writable_values.ensures.lists;
+      whole_element = c.writable_values.ensures.whole_element;
       binary_element = λ left bytes. rw (c.writable_values.ensures.binary_element left []).same (c.writable_values.ensures.binary_element left bytes);
-      struct_element = λ left fields are. rw (c.writable_values.ensures.struct_element left [] tt).same (c.writable_values.ensures.struct_element left fields are) } in
+      struct_element = λ left fields are. rw (c.writable_values.ensures.struct_element left [] tt).same (c.writable_values.ensures.struct_element left fields are);
+    } in
     let same : c.in_ok-tree.tree ≡ w.header_fields c.args.header.now = c.in_ok-tree.ensures.fields in
     subst IsWritable (sym same) (header_writable law c.args.header.now c.in_ok-tree.ensures.range)
 
