@@ -1,6 +1,13 @@
 // Footers and page headers spelled by hand after parquet.thrift, and bytes that are neither.
-use crate::{MetaFault, PageHeader, PageV1, read_footer, read_page_header, write_page_header};
+ghost use Rattle.std.specs.Prelude.{IfOk};
+ghost use Rattle.parquet_meta.specs.Writable.{IsWritableFooter};
+
+use crate::{
+    Annotation, Footer, LeafSchema, Logical, MetaFault, PageHeader, PageV1, read_footer,
+    read_page_header, write_footer, write_page_header,
+};
 use dm_types::Items;
+use std::alloc::{AllocError, Global};
 use std::test::Fail;
 
 /// Footers, and what is kept of them.
@@ -248,6 +255,43 @@ fn page_headers_are_read(rt: HostRuntime) -> Result<(), Fail> {
         let refused = matches!(read_page_header(alloc, bytes), Err(MetaFault::BadFooter));
         assert!(rt; refused, "{bytes:?}");
     }
+    Ok(())
+}
+
+/// A footer of one leaf and no row group.
+fn sample(alloc: Global) -> Result<Footer, AllocError>
+    ensures { IfOk result (λ footer. IsWritableFooter footer) }
+{
+    let leaf = LeafSchema {
+        name: Items::from_slice(alloc, b"a")?,
+        top: true,
+        physical: 7,
+        length: 3,
+        optional: true,
+        repeated: false,
+        annotation: Annotation {
+            converted: Some(5),
+            scale: Some(2),
+            precision: Some(6),
+            logical: Logical::Timestamp { unit: 2 },
+        },
+        field_id: Some(-4),
+    };
+    Ok(Footer {
+        rows: 0,
+        leaves: Items::from_vec(vec![in alloc; leaf]?),
+        groups: Items::new(alloc),
+    })
+}
+
+#[test]
+fn a_footer_is_written(rt: HostRuntime) -> Result<(), Fail> {
+    let alloc = rt.alloc();
+    let mut out = Items::new(alloc);
+    write_footer(alloc, &sample(alloc)?, &mut out)?;
+    let wanted: &[u8] =
+        b"\x15\x02\x19,H\x06schema\x15\x02\x00\x15\x0e\x15\x06\x15\x02\x18\x01a%\x0a\x15\x04\x15\x0c\x15\x07\x1c\x8c,,\x00\x00\x00\x00\x00\x16\x00\x19\x0c(\x0adeltamerge\x00";
+    assert_eq!(rt; out.as_slice(), wanted);
     Ok(())
 }
 
