@@ -41,23 +41,8 @@ entered_ok : (top : Bool) (owner e : Element) (rest : ℕ → Option (List LeafS
     → joined old (entered top owner e rest) ≡ joined new (rest children)
 entered_ok top owner e rest old new children adds = rw (adds.0) (added old new (own_leaves top owner e children) (rest children) adds.1)
 
-entered_bad : (top : Bool) (owner e : Element) (rest : ℕ → Option (List LeafSchema)) (old new : List LeafSchema) → AddsOwn top owner e old new (Err BadFooter)
-    → joined old (entered top owner e rest) ≡ None
-entered_bad top owner e rest old new adds = by_count (count_of e.children) adds
-  where
-    by_own : (own : Option (List LeafSchema)) (more : Option (List LeafSchema)) → own ≡ None → joined old (option_and_then (λ leaves. joined leaves more) own) ≡ None
-    by_own own more is = rw is refl
-
-    by_count : (o : Option ℕ) → option_and_then (own_leaves top owner e) o ≡ None
-        → joined old (option_and_then (λ children. option_and_then (λ own. joined own (rest children)) (own_leaves top owner e children)) o) ≡ None
-    by_count None is = refl
-    by_count (Some children) is = by_own (own_leaves top owner e children) (rest children) is
-
 module _ (es : List Element) (place : ℕ) (e : Element) (stands : (place < length es) × (e ≡ get_or es place e)) (total : Option (List LeafSchema)) (owner : Element) (inside outside : ℕ) (old : List LeafSchema)
     (left : total ≡ joined old (leaves_of owner inside outside (drop place es))) where
-  rest : List Element
-  rest = drop (place + 1) es
-
   opened : total ≡ joined old (leaves_of owner inside outside (e ∷ drop (place + 1) es))
   opened =
       let next : suc place ≡ place + 1 = omega arith in
@@ -77,9 +62,6 @@ module _ (es : List Element) (place : ℕ) (e : Element) (stands : (place < leng
   inside_many less children new is adds many =
       opened_inside less is ∙ entered_ok false owner e _ old new children adds ∙ ap (joined new) (too_many owner (children + less) outside (drop (place + 1) es) many)
 
-  pub inside_bad : (less : ℕ) (new : List LeafSchema) → inside ≡ suc less → AddsOwn false owner e old new (Err BadFooter) → total ≡ None
-  inside_bad less new is adds = opened_inside less is ∙ entered_bad false owner e _ old new adds
-
   pub top_ok : (less children now : ℕ) (new : List LeafSchema) → inside ≡ 0 → outside ≡ suc less → AddsOwn true e e old new (Ok children) → now ≡ children
       → total ≡ joined new (leaves_of e now less (drop (place + 1) es))
   top_ok less children now new none is adds sum = opened_top less none is ∙ entered_ok true e e _ old new children adds ∙ ap (λ n. joined new (leaves_of e n less (drop (place + 1) es))) (sym sum)
@@ -87,14 +69,3 @@ module _ (es : List Element) (place : ℕ) (e : Element) (stands : (place < leng
   pub top_many : (less children : ℕ) (new : List LeafSchema) → inside ≡ 0 → outside ≡ suc less → AddsOwn true e e old new (Ok children) → length (drop (place + 1) es) < children + less → total ≡ None
   top_many less children new none is adds many =
       opened_top less none is ∙ entered_ok true e e _ old new children adds ∙ ap (joined new) (too_many e children less (drop (place + 1) es) many)
-
-  pub top_bad : (less : ℕ) (new : List LeafSchema) → inside ≡ 0 → outside ≡ suc less → AddsOwn true e e old new (Err BadFooter) → total ≡ None
-  top_bad less new none is adds = opened_top less none is ∙ entered_bad true e e _ old new adds
-
-  pub none_owed : inside ≡ 0 → outside ≡ 0 → total ≡ None
-  none_owed none out = opened ∙ ap (λ n. joined old (leaves_of owner n outside (e ∷ drop (place + 1) es))) none ∙ ap (λ n. joined old (leaves_of owner 0 n (e ∷ drop (place + 1) es))) out
-
-pub all_entered : (es : List Element) (place : ℕ) (total : Option (List LeafSchema)) (owner : Element) (inside outside : ℕ) (done : List LeafSchema)
-    → total ≡ joined done (leaves_of owner inside outside (drop place es)) → length es ≤ place → inside ≡ 0 → outside ≡ 0 → total ≡ Some done
-all_entered es place total owner inside outside done left past none out =
-    left ∙ ap (λ xs. joined done (leaves_of owner inside outside xs)) (drop_all place es past) ∙ ap (λ n. joined done (leaves_of owner n outside [])) none ∙ ap (λ n. joined done (leaves_of owner 0 n [])) out ∙ ap Some (append-nil done)

@@ -13,9 +13,6 @@ use Rattle.parquet_meta.specs.Meaning.{total_rows, rows_add_up}
 abbrev nonneg : List RowGroup → Bool
 nonneg gs = list_all (λ group. le_z (pos 0) group.rows) gs
 
-le_test : (z : ℤ) → pos 0 ≤ℤ z → le_z (pos 0) z ≡ true
-le_test z h = grind (arith, ints)
-
 gt_test : (z : ℤ) → z <ℤ pos 0 → le_z (pos 0) z ≡ false
 gt_test z h = grind (arith, ints)
 
@@ -34,11 +31,6 @@ and_false : (a b : Bool) → (a ≡ true → b ≡ false) → (a && b) ≡ false
 and_false true b h = h refl
 and_false false b h = refl
 
-same_by : (a b : Bool) → (a ≡ true → b ≡ true) → (b ≡ true → a ≡ true) → a ≡ b
-same_by true b to from = sym (to refl)
-same_by false true to from = from refl
-same_by false false to from = refl
-
 not_true : (a : Bool) → (a ≡ true → true ≡ false) → a ≡ false
 not_true true h = h refl
 not_true false h = refl
@@ -50,15 +42,7 @@ total-nonneg (g ∷ gs) h =
     let more : pos 0 ≤ℤ total_rows gs = total-nonneg gs (and_right (le_z (pos 0) g.rows) (nonneg gs) h) in
     omega (arith, ints)
 
-moved : (a t left : ℤ) → int_eq (a +ℤ t) left ≡ int_eq t (left -ℤ a)
-moved a t left = same_by _ _
-    (λ h. let e : a +ℤ t ≡ left = (Decides-int_eq (a +ℤ t) left).0 h in let d : t ≡ left -ℤ a = omega (arith, ints) in (Decides-int_eq t (left -ℤ a)).1 d)
-    (λ h. let e : t ≡ left -ℤ a = (Decides-int_eq t (left -ℤ a)).0 h in let d : a +ℤ t ≡ left = omega (arith, ints) in (Decides-int_eq (a +ℤ t) left).1 d)
-
 module _ (left : ℤ) (g : RowGroup) (gs : List RowGroup) where
-  taken_one : pos 0 ≤ℤ g.rows → rows_add_up left (g ∷ gs) ≡ rows_add_up (left -ℤ g.rows) gs
-  taken_one h = rw (le_test g.rows h, moved g.rows (total_rows gs) left) refl
-
   negative_one : g.rows <ℤ pos 0 → rows_add_up left (g ∷ gs) ≡ false
   negative_one h = rw (gt_test g.rows h) refl
 
@@ -75,14 +59,8 @@ module _ (groups : List RowGroup) (place : ℕ) (g : RowGroup) (stands : (place 
       let next : suc place ≡ place + 1 = omega arith in
       known ∙ ap (rows_add_up left) (drop-cons groups place g stands.0 ∙ ap (λ n. n ∷ drop (suc place) groups) (sym stands.1) ∙ ap (λ k. g ∷ drop k groups) next)
 
-  pub taken : pos 0 ≤ℤ g.rows → total ≡ rows_add_up (left -ℤ g.rows) (drop (place + 1) groups)
-  taken h = opened ∙ taken_one left g (drop (place + 1) groups) h
-
   pub negative : g.rows <ℤ pos 0 → total ≡ false
   negative h = opened ∙ negative_one left g (drop (place + 1) groups) h
 
   pub past : left <ℤ g.rows → total ≡ false
   past h = opened ∙ past_one left g (drop (place + 1) groups) h
-
-pub all_taken : (groups : List RowGroup) (place : ℕ) (total : Bool) (left : ℤ) → total ≡ rows_add_up left (drop place groups) → length groups ≤ place → total ≡ int_eq (pos 0) left
-all_taken groups place total left known end = known ∙ ap (rows_add_up left) (drop_all place groups end)

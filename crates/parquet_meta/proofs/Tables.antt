@@ -14,9 +14,6 @@ use Rattle.parquet_meta.specs.declared.forms.Shape.{Shape}
 use Rattle.parquet_meta.specs.Forms.{Form, last_field, field_value, needed, maybe, optional, maybe_checked, checked, i32, i32_in, is_i32, i64, i64_in, binary, bytes_in, struct, struct_in, nodes_in, list, each}
 use Rattle.parquet_meta.specs.Written as w
 
-abbrev pub Table : Type 0
-Table = List (ℤ × Option (ℕ × Node))
-
 abbrev pub pick : Bool → ℤ → Option (ℕ × Node) → Option Field → Option Field
 pick false id o base = base
 pick true id None base = base

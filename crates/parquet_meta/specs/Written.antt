@@ -17,10 +17,6 @@ use Rattle.parquet_meta.specs.declared.metadata.Footer.{Footer}
 
 -- ---- tables of fields
 
--- a width and a value
-abbrev pub Content : Type 0
-Content = ℕ × Node
-
 -- fields by their ids, in order; None is one that is left out
 abbrev pub Table : Type 0
 Table = List (ℤ × Option (ℕ × Node))
@@ -29,12 +25,12 @@ abbrev pub entry : ℤ → Option (ℕ × Node) → List Field
 entry id None = []
 entry id (Some v) = (record { id = id; width = v.0; node = v.1 }) ∷ []
 
-abbrev pub onto : List Field → List (ℤ × Option (ℕ × Node)) → List Field
+abbrev pub onto : List Field → Table → List Field
 onto fields [] = fields
 onto fields (e ∷ es) = onto (fields ++ entry e.0 e.1) es
 
 -- the struct with these fields
-abbrev pub fields_of : List (ℤ × Option (ℕ × Node)) → List Field
+abbrev pub fields_of : Table → List Field
 fields_of table = onto [] table
 
 abbrev pub whole_32 : ℤ → ℕ × Node
@@ -46,10 +42,10 @@ whole_64 z = (64, n.Whole z)
 abbrev pub bytes : List ℕ → ℕ × Node
 bytes b = (0, n.Binary b)
 
-abbrev pub inner : List (ℤ × Option (ℕ × Node)) → Node
+abbrev pub inner : Table → Node
 inner table = n.Struct (fields_of table)
 
-abbrev pub struct : List (ℤ × Option (ℕ × Node)) → ℕ × Node
+abbrev pub struct : Table → ℕ × Node
 struct table = (0, inner table)
 
 abbrev pub nodes : List Node → ℕ × Node
@@ -58,7 +54,7 @@ nodes ns = (0, n.List ns)
 -- ---- page headers
 
 -- DataPageHeader
-abbrev pub page_table : PageV1 → List (ℤ × Option (ℕ × Node))
+abbrev pub page_table : PageV1 → Table
 page_table p =
     (pos 1, Some (whole_32 p.values))  -- 1 num_values
     ∷ (pos 2, Some (whole_32 p.encoding))  -- 2 encoding
@@ -67,14 +63,14 @@ page_table p =
     ∷ []
 
 -- DictionaryPageHeader
-abbrev pub dictionary_table : DictionaryPage → List (ℤ × Option (ℕ × Node))
+abbrev pub dictionary_table : DictionaryPage → Table
 dictionary_table p =
     (pos 1, Some (whole_32 p.values))  -- 1 num_values
     ∷ (pos 2, Some (whole_32 p.encoding))  -- 2 encoding
     ∷ []
 
 -- DataPageHeaderV2
-abbrev pub page_v2_table : PageV2 → List (ℤ × Option (ℕ × Node))
+abbrev pub page_v2_table : PageV2 → Table
 page_v2_table p =
     (pos 1, Some (whole_32 p.values))  -- 1 num_values
     ∷ (pos 2, Some (whole_32 p.nulls))  -- 2 num_nulls
@@ -85,7 +81,7 @@ page_v2_table p =
     ∷ []
 
 -- PageHeader
-abbrev pub header_table : PageHeader → List (ℤ × Option (ℕ × Node))
+abbrev pub header_table : PageHeader → Table
 header_table h =
     (pos 1, Some (whole_32 h.kind))  -- 1 type
     ∷ (pos 2, Some (whole_32 h.unpacked))  -- 2 uncompressed_page_size
@@ -123,7 +119,7 @@ abbrev pub repetition_by : Bool → Bool → ℕ
 repetition_by optional repeated = if repeated then 2 else if optional then 1 else 0
 
 -- SchemaElement of a leaf
-abbrev pub leaf_table : LeafSchema → List (ℤ × Option (ℕ × Node))
+abbrev pub leaf_table : LeafSchema → Table
 leaf_table leaf =
     (pos 1, Some (whole_32 (pos leaf.physical)))  -- 1 type
     ∷ (pos 2, option_map whole_32 (told_length leaf.length))  -- 2 type_length
@@ -137,7 +133,7 @@ leaf_table leaf =
     ∷ []
 
 -- SchemaElement of the root
-abbrev pub root_table : ℕ → List (ℤ × Option (ℕ × Node))
+abbrev pub root_table : ℕ → Table
 root_table count =
     (pos 4, Some (bytes (codes "schema")))  -- 4 name
     ∷ (pos 5, Some (whole_32 (pos count)))  -- 5 num_children
@@ -153,7 +149,7 @@ abbrev pub whole_list : List ℤ → ℕ × Node
 whole_list zs = (whole_width zs, n.List (map n.Whole zs))
 
 -- ColumnMetaData
-abbrev pub column_table : ChunkMeta → List (ℤ × Option (ℕ × Node))
+abbrev pub column_table : ChunkMeta → Table
 column_table c =
     (pos 1, Some (whole_32 c.physical))  -- 1 type
     ∷ (pos 2, Some (whole_list c.encodings))  -- 2 encodings
@@ -167,14 +163,14 @@ column_table c =
     ∷ []
 
 -- ColumnChunk
-abbrev pub chunk_table : ChunkMeta → List (ℤ × Option (ℕ × Node))
+abbrev pub chunk_table : ChunkMeta → Table
 chunk_table c =
     (pos 2, Some (whole_64 (pos 0)))  -- 2 file_offset
     ∷ (pos 3, Some (struct (column_table c)))  -- 3 meta_data
     ∷ []
 
 -- RowGroup
-abbrev pub group_table : RowGroup → List (ℤ × Option (ℕ × Node))
+abbrev pub group_table : RowGroup → Table
 group_table g =
     (pos 1, Some (nodes (map (λ c. inner (chunk_table c)) g.chunks)))  -- 1 columns
     ∷ (pos 2, Some (whole_64 g.bytes))  -- 2 total_byte_size
@@ -182,7 +178,7 @@ group_table g =
     ∷ []
 
 -- FileMetaData
-abbrev pub footer_table : Footer → List (ℤ × Option (ℕ × Node))
+abbrev pub footer_table : Footer → Table
 footer_table f =
     (pos 1, Some (whole_32 (pos 1)))  -- 1 version
     ∷ (pos 2, Some (nodes (inner (root_table (length f.leaves)) ∷ map (λ leaf. inner (leaf_table leaf)) f.leaves)))  -- 2 schema

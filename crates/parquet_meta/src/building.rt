@@ -65,7 +65,7 @@ pub(crate) fn put_maybe<T: Written>(
     }
 }
 
-/// Adds what values of no width are written as.
+/// Adds the nodes of values, without their width.
 pub(crate) fn append_nodes<T: Written>(
     alloc: Global,
     nodes: &mut Nodes,
