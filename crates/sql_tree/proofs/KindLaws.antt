@@ -1,6 +1,6 @@
 -- What a test of every kind shows of all tokens.
 use Rattle.std.proofs.Common.{◌≡◌, ℕ, zero, suc, Bool, true, false, List, [], ◌∷◌, refl}
-use Rattle.std.specs.Prelude.{◌&&◌, not}
+use Rattle.std.specs.Prelude.{◌&&◌, ◌||◌, not}
 use Rattle.sql_tree.specs.declared.token.Kind.{Kind}
 use Rattle.sql_tree.specs.declared.token.Kind.TheVariants.{Bad, Name, Whole, LargeWhole, Decimal, Text, TableText, Bytes, Table, TableChanges, Semicolon, Open, Close, Comma, Dot, Equal, NotEqual, Less, LessOrEqual, Greater, GreaterOrEqual, SameAs, Concat, Plus, Minus, Star, Percent, Alter, And, As, Between, By, Case, Cast, Check, Constraint, Create, Delete, Div, Else, End, False, From, In, Insert, Into, Is, Matched, Merge, Not, Null, On, Or, Select, Set, Show, TableWord, Then, To, True, Update, Using, Values, Verify, When, Where, Files, Identities, Rows, Feed, Version, Of, Partitioned, TblProperties, Generated, Always, Default, Identity, Start, With, Increment, Target, Source, Boolean, TinyInt, SmallInt, Int, BigInt, String, Binary, Date, Timestamp, DecimalWord, Enable, Row, Tracking, Add, Column, Rename, Drop, Optimize, Restore}
 use Rattle.sql_tree.specs.declared.token.Token.{Token}
@@ -149,3 +149,11 @@ implied false q h e = absurd (cc)
 -- no token is in both sets, by a test of each kind
 pub apart : (p q : Token → Bool) → ((s : Span) → every kinds (λ k. not (p (record { kind = k; span = s }) && q (record { kind = k; span = s }))) ≡ true) → (t : Token) → p t ≡ true → q t ≡ false
 apart p q h t = implied (p t) (q t) (at_each (λ k. not (p (record { kind = k; span = t.span }) && q (record { kind = k; span = t.span }))) (h t.span) t.kind)
+
+held : (p q : Bool) → (not p || q) ≡ true → q ≡ false → p ≡ false
+held true q h e = absurd (cc)
+held false q h e = refl
+
+-- each token of the first set is in the second, by a test of each kind
+pub among : (p q : Token → Bool) → ((s : Span) → every kinds (λ k. not (p (record { kind = k; span = s })) || q (record { kind = k; span = s })) ≡ true) → (t : Token) → q t ≡ false → p t ≡ false
+among p q h t = held (p t) (q t) (at_each (λ k. not (p (record { kind = k; span = t.span })) || q (record { kind = k; span = t.span })) (h t.span) t.kind)

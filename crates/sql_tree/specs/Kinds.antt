@@ -113,11 +113,6 @@ compares GreaterOrEqual = true
 compares SameAs = true
 compares _ = false
 
-abbrev pub adds : Kind → Bool
-adds Plus = true
-adds Minus = true
-adds _ = false
-
 abbrev pub multiplies : Kind → Bool
 multiplies Star = true
 multiplies Percent = true
@@ -158,6 +153,12 @@ abbrev pub dates : Kind → Bool
 dates Date = true
 dates Timestamp = true
 dates _ = false
+
+-- a sign
+abbrev pub signs : Kind → Bool
+signs Plus = true
+signs Minus = true
+signs _ = false
 
 -- the token is of a class
 abbrev pub any : (Kind → Bool) → Token → Bool

@@ -1,20 +1,37 @@
 -- The laws of each way to build a language, all at once. `Leads`: each sentence has a token. `Meets`: it may have none.
-use Rattle.std.proofs.Common.{◌≡◌, ℕ, Bool, true, false, List, [], ◌∷◌, length, Ok, refl}
+use Rattle.std.proofs.Common.{◌≡◌, ℕ, Bool, true, false, List, [], ◌∷◌, length, Ok, Err, refl}
 use Rattle.std.specs.Prelude.{◌||◌, Option, Some, None, fold}
-use Rattle.token_lang.specs.Lang.{Lang, one, nothing, both, either, valued, many, at_most}
-use Rattle.token_lang.specs.Run.{Reader, made, run_one, run_both, run_either, run_many, run_at_most}
+use Rattle.token_lang.specs.Lang.{Lang, one, nothing, never, both, either, valued, many, at_most}
+use Rattle.token_lang.specs.Run.{Reader, sees, made, run_one, run_both, run_either, run_many, run_at_most}
 use Rattle.token_lang.specs.Exact.{Exact, Solid, Apart}
 use Rattle.token_lang.specs.Meets.{Plain, Meets, Leads}
-use Rattle.token_lang.proofs.Base.{one_exact, one_solid, valued_exact, valued_solid, nothing_exact}
+use Rattle.token_lang.proofs.Base.{one_exact, one_solid, valued_exact, valued_solid, nothing_exact, never_exact, never_solid}
 use Rattle.token_lang.proofs.Both.{both_exact, both_maybe_exact, both_solid, late_exact, late_solid, either_exact, either_maybe_exact, either_solid, weaker, wider, sees_twice, sees_alone, sees_end}
 use Rattle.token_lang.proofs.Many.{many_exact}
-use Rattle.token_lang.proofs.Place.{one_local, nothing_local, valued_local, both_local, either_local, many_local, limit_exact, limit_solid, limit_local}
+use Rattle.token_lang.proofs.Place.{one_local, nothing_local, never_local, valued_local, both_local, either_local, many_local, limit_exact, limit_solid, limit_local}
 use Rattle.token_lang.proofs.Cut.{one_cuts, nothing_cuts, both_cuts, either_cuts, valued_cuts, many_cuts, limit_cuts}
 
 pub one_leads : {T : Type 0} (is : T → Bool) → Leads (one is) (run_one is) is (λ _. false)
 one_leads is = record {
   meets = record { exact = one_exact is; local = one_local is };
   solid = one_solid is;
+}
+
+pub never_leads : {T A : Type 0} (first goes : T → Bool) → Leads {T = T} {A = A} never (λ ts. Err ts) first goes
+never_leads first goes = record {
+  meets = record { exact = never_exact first goes; local = never_local };
+  solid = never_solid first;
+}
+
+no_more : {T : Type 0} (goes goes' : T → Bool) → ((t : T) → goes' t ≡ false → goes t ≡ false) → (ts : List T) → sees goes' ts ≡ false → sees goes ts ≡ false
+no_more goes goes' less [] h = refl
+no_more goes goes' less (t ∷ ts) h = less t h
+
+-- with more tokens that may come behind
+pub goes_leads : {T A : Type 0} {L : Lang T A} {f : Reader T A} {first goes : T → Bool} (goes' : T → Bool) → ((t : T) → goes' t ≡ false → goes t ≡ false) → Leads L f first goes → Leads L f first goes'
+goes_leads {goes} goes' less x = record {
+  meets = record { exact = weaker goes' (no_more goes goes' less) x.meets.exact; local = x.meets.local };
+  solid = x.solid;
 }
 
 module _ {T A B : Type 0} {L : Lang T A} {f : Reader T A} {first goes : T → Bool} (make : A → B) where

@@ -56,8 +56,8 @@ nothing_exact = record {
   shorter = λ ts rest e. rw e (omega arith);
 }
 
-pub never_exact : {T A : Type 0} (first : T → Bool) → Exact {T = T} {A = A} never (λ ts. Err ts) first (λ _. false)
-never_exact first = record {
+pub never_exact : {T A : Type 0} (first goes : T → Bool) → Exact {T = T} {A = A} never (λ ts. Err ts) first goes
+never_exact first goes = record {
   fits = λ ts. refl;
   only = λ ts a rest e _. absurd e;
   longest = λ ts rest e. rw e (omega arith);
