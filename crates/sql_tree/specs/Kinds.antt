@@ -1,5 +1,5 @@
 -- Classes of tokens.
-use Rattle.std.specs.Prelude.{Bool, true, false}
+use Rattle.std.specs.Prelude.{Bool, true, false, ◌||◌}
 use Rattle.sql_tree.specs.declared.token.Kind.{Kind}
 use Rattle.sql_tree.specs.declared.token.Kind.TheVariants.{Name, Whole, LargeWhole, Decimal, Text, TableText, Bytes, Table, TableChanges, Equal, NotEqual, Less, LessOrEqual, Greater, GreaterOrEqual, SameAs, Plus, Minus, Star, Percent, Div, Null, True, False, Files, Identities, Rows, Feed, Version, Of, Partitioned, TblProperties, Generated, Always, Default, Identity, Start, With, Increment, Target, Source, Boolean, TinyInt, SmallInt, Int, BigInt, String, Binary, Date, Timestamp, DecimalWord, Enable, Row, Tracking, Add, Column, Rename, Drop, Optimize, Restore}
 use Rattle.sql_tree.specs.declared.token.Token.{Token}
@@ -10,85 +10,74 @@ use denote.Enum.Bare.{sameb}
 abbrev pub is : Kind → Token → Bool
 is k t = sameb the_type t.kind k
 
--- a word that isn't reserved, or a name in backquotes
-abbrev pub names : Kind → Bool
-names Name = true
-names Files = true
-names Identities = true
-names Rows = true
-names Feed = true
-names Version = true
-names Of = true
-names Partitioned = true
-names TblProperties = true
-names Generated = true
-names Always = true
-names Default = true
-names Identity = true
-names Start = true
-names With = true
-names Increment = true
-names Target = true
-names Source = true
-names Boolean = true
-names TinyInt = true
-names SmallInt = true
-names Int = true
-names BigInt = true
-names String = true
-names Binary = true
-names Date = true
-names Timestamp = true
-names DecimalWord = true
-names Enable = true
-names Row = true
-names Tracking = true
-names Add = true
-names Column = true
-names Rename = true
-names Drop = true
-names Optimize = true
-names Restore = true
-names _ = false
+-- ---- names: a word that isn't reserved, or a name in backquotes
 
--- a word that isn't reserved and begins no literal
+-- a word without a place, and words of statements that read and merge
+abbrev pub names_plainly : Kind → Bool
+names_plainly Name = true
+names_plainly Files = true
+names_plainly Identities = true
+names_plainly Rows = true
+names_plainly Feed = true
+names_plainly Version = true
+names_plainly Of = true
+names_plainly Target = true
+names_plainly Source = true
+names_plainly _ = false
+
+-- words of CREATE TABLE
+abbrev pub names_in_create : Kind → Bool
+names_in_create Partitioned = true
+names_in_create TblProperties = true
+names_in_create Generated = true
+names_in_create Always = true
+names_in_create Default = true
+names_in_create Identity = true
+names_in_create Start = true
+names_in_create With = true
+names_in_create Increment = true
+names_in_create _ = false
+
+-- words of types, but DATE and TIMESTAMP
+abbrev pub names_a_type : Kind → Bool
+names_a_type Boolean = true
+names_a_type TinyInt = true
+names_a_type SmallInt = true
+names_a_type Int = true
+names_a_type BigInt = true
+names_a_type String = true
+names_a_type Binary = true
+names_a_type DecimalWord = true
+names_a_type _ = false
+
+-- words of statements that change a table as a whole
+abbrev pub names_in_alter : Kind → Bool
+names_in_alter Enable = true
+names_in_alter Row = true
+names_in_alter Tracking = true
+names_in_alter Add = true
+names_in_alter Column = true
+names_in_alter Rename = true
+names_in_alter Drop = true
+names_in_alter Optimize = true
+names_in_alter Restore = true
+names_in_alter _ = false
+
+-- DATE and TIMESTAMP
+abbrev pub dates : Kind → Bool
+dates Date = true
+dates Timestamp = true
+dates _ = false
+
+-- a name that begins no literal
 abbrev pub names_alone : Kind → Bool
-names_alone Name = true
-names_alone Files = true
-names_alone Identities = true
-names_alone Rows = true
-names_alone Feed = true
-names_alone Version = true
-names_alone Of = true
-names_alone Partitioned = true
-names_alone TblProperties = true
-names_alone Generated = true
-names_alone Always = true
-names_alone Default = true
-names_alone Identity = true
-names_alone Start = true
-names_alone With = true
-names_alone Increment = true
-names_alone Target = true
-names_alone Source = true
-names_alone Boolean = true
-names_alone TinyInt = true
-names_alone SmallInt = true
-names_alone Int = true
-names_alone BigInt = true
-names_alone String = true
-names_alone Binary = true
-names_alone DecimalWord = true
-names_alone Enable = true
-names_alone Row = true
-names_alone Tracking = true
-names_alone Add = true
-names_alone Column = true
-names_alone Rename = true
-names_alone Drop = true
-names_alone Optimize = true
-names_alone Restore = true
-names_alone _ = false
+names_alone kind = names_plainly kind || (names_in_create kind || (names_a_type kind || names_in_alter kind))
+
+-- a name
+abbrev pub names : Kind → Bool
+names kind = dates kind || names_alone kind
+
+-- ---- other classes
 
 -- a literal of one token
 abbrev pub is_value : Kind → Bool
@@ -147,12 +136,6 @@ abbrev pub is_table : Kind → Bool
 is_table Table = true
 is_table TableChanges = true
 is_table _ = false
-
--- DATE or TIMESTAMP
-abbrev pub dates : Kind → Bool
-dates Date = true
-dates Timestamp = true
-dates _ = false
 
 -- a sign
 abbrev pub signs : Kind → Bool
