@@ -1,0 +1,4 @@
+pub mod Digits
+pub mod Scan
+pub mod SignLengths
+pub mod Texts
