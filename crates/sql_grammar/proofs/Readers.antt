@@ -79,6 +79,12 @@ type_inside_leads (suc depth) = type_leads depth
 
 -- ---- expressions
 
+maybe_not_meets : Meets (g.maybe (g.token k.Not)) r.run_maybe_not (is k.Not) (λ t. is k.Not t || false)
+maybe_not_meets = maybe_meets (token_leads k.Not)
+
+pub question_leads : Leads g.question r.run_question (is k.Is) none
+question_leads = valued_leads tree.asked (both_leads (token_leads k.Is) (maybe_then_leads maybe_not_meets (one_leads (any is_truth)) (apart _ _ (λ s. refl))) (λ t _. refl))
+
 module _ (depth : ℕ) {B : Lang Token Expr} {f : Reader Token Expr} (x : Leads B f first_expr after_expr) where
   pub group_leads : Leads (g.group depth B) (r.run_group depth f) (is k.Open) none
   group_leads = valued_leads tree.grouped (both_leads (opening_leads depth k.Open) (both_leads x (token_leads k.Close) (apart _ _ (λ s. refl))) (λ t _. refl))
@@ -140,12 +146,6 @@ module _ (depth : ℕ) {B : Lang Token Expr} {f : Reader Token Expr} (x : Leads 
   pub comparison_leads : Leads (g.comparison depth B) (r.run_comparison depth f) (any compares) after_cat
   comparison_leads = valued_leads tree.compared (both_leads (one_leads (any compares)) cat_leads (λ t _. refl))
 
-  maybe_not_meets : Meets (g.maybe (g.token k.Not)) (r.run_maybe_not depth f) (is k.Not) (λ t. is k.Not t || false)
-  maybe_not_meets = maybe_meets (token_leads k.Not)
-
-  pub question_leads : Leads (g.question depth B) (r.run_question depth f) (is k.Is) none
-  question_leads = valued_leads tree.asked (both_leads (token_leads k.Is) (maybe_then_leads maybe_not_meets (one_leads (any is_truth)) (apart _ _ (λ s. refl))) (λ t _. refl))
-
   pub between_leads : Leads (g.between depth B) (r.run_between depth f) (is k.Between) after_cat
   between_leads = valued_leads tree.between_bounds (both_leads (token_leads k.Between) (both_leads cat_leads (both_leads (token_leads k.And) cat_leads (λ t _. refl)) (apart _ _ (λ s. refl))) (λ t _. refl))
 
@@ -155,7 +155,7 @@ module _ (depth : ℕ) {B : Lang Token Expr} {f : Reader Token Expr} (x : Leads 
   pub range_leads : Leads (g.range depth B) (r.run_range depth f) first_range after_cat
   range_leads = goes_leads after_cat (among _ _ (λ s. refl)) (valued_leads tree.maybe_not (maybe_then_leads maybe_not_meets (either_leads between_leads among_leads (apart _ _ (λ s. refl))) (apart _ _ (λ s. refl))))
 
-  pub predicate_leads : Leads (either (g.comparison depth B) (either (g.question depth B) (g.range depth B))) (r.run_predicate depth f) first_predicate after_cat
+  pub predicate_leads : Leads (either (g.comparison depth B) (either g.question (g.range depth B))) (r.run_predicate depth f) first_predicate after_cat
   predicate_leads = goes_leads after_cat (among _ _ (λ s. refl)) (either_leads comparison_leads (either_leads question_leads range_leads (apart _ _ (λ s. refl))) (apart _ _ (λ s. refl)))
 
   pub test_leads : Leads (g.test depth B) (r.run_test depth f) first_sign after_test

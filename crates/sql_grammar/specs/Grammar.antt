@@ -74,6 +74,10 @@ type_inside (suc depth) = written_type depth
 
 -- ---- expressions, by what an expression within one more bracket is
 
+-- IS [NOT] (NULL | TRUE | FALSE)
+abbrev pub question : Lang Token (Expr → Expr)
+question = valued tree.asked (both (token k.Is) (both (maybe (token k.Not)) (one (any is_truth))))
+
 module _ (depth : ℕ) (inside : Lang Token Expr) where
   -- "(" expr ")"
   abbrev pub group : Lang Token Expr
@@ -133,10 +137,6 @@ module _ (depth : ℕ) (inside : Lang Token Expr) where
   -- cmp cat
   abbrev pub comparison : Lang Token (Expr → Expr)
   comparison = valued tree.compared (both (one (any compares)) cat)
-
-  -- IS [NOT] (NULL | TRUE | FALSE)
-  abbrev pub question : Lang Token (Expr → Expr)
-  question = valued tree.asked (both (token k.Is) (both (maybe (token k.Not)) (one (any is_truth))))
 
   -- BETWEEN cat AND cat
   abbrev pub between : Lang Token (Option Token → Expr → Expr)

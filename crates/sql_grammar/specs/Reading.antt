@@ -88,15 +88,24 @@ first_range t = is k.Not t || (is k.Between t || is k.In t)
 abbrev pub first_predicate : Token → Bool
 first_predicate t = any compares t || (is k.Is t || first_range t)
 
+abbrev pub run_qualified : Reader Token (Token → Expr)
+run_qualified = run_valued tree.qualified (run_both (run_token k.Dot) run_name)
+
+abbrev pub run_literal : Reader Token Expr
+run_literal = run_valued tree.literal (run_one (any is_value))
+
+abbrev pub run_maybe_not : Reader Token (Option Token)
+run_maybe_not = run_maybe (is k.Not) (run_token k.Not)
+
+abbrev pub run_question : Reader Token (Expr → Expr)
+run_question = run_valued tree.asked (run_both (run_token k.Is) (run_both run_maybe_not (run_one (any is_truth))))
+
 module _ (depth : ℕ) (inside : Reader Token Expr) where
   abbrev pub run_group : Reader Token Expr
   run_group = run_valued tree.grouped (run_both (run_opening depth k.Open) (run_both inside (run_token k.Close)))
 
   abbrev pub run_arguments : Reader Token (Token → Expr)
   run_arguments = run_valued tree.called (run_both (run_opening depth k.Open) (run_both (run_maybe first_expr (run_commas inside)) (run_token k.Close)))
-
-  abbrev pub run_qualified : Reader Token (Token → Expr)
-  run_qualified = run_valued tree.qualified (run_both (run_token k.Dot) run_name)
 
   abbrev pub run_tail : Reader Token (Token → Expr)
   run_tail = run_either (is k.Dot) run_qualified run_arguments
@@ -128,9 +137,6 @@ module _ (depth : ℕ) (inside : Reader Token Expr) where
   abbrev pub run_cast : Reader Token Expr
   run_cast = run_valued tree.cast_to (run_both (run_token k.Cast) (run_both (run_opening depth k.Open) (run_both inside (run_both (run_token k.As) (run_both (run_type_inside depth) (run_token k.Close))))))
 
-  abbrev pub run_literal : Reader Token Expr
-  run_literal = run_valued tree.literal (run_one (any is_value))
-
   abbrev pub run_primary : Reader Token Expr
   run_primary = run_either (any is_value) run_literal (run_either (any dates) run_dated (run_either (is k.Open) run_group (run_either (any names_alone) run_named (run_either (is k.Case) run_case run_cast))))
 
@@ -148,12 +154,6 @@ module _ (depth : ℕ) (inside : Reader Token Expr) where
 
   abbrev pub run_comparison : Reader Token (Expr → Expr)
   run_comparison = run_valued tree.compared (run_both (run_one (any compares)) run_cat)
-
-  abbrev pub run_maybe_not : Reader Token (Option Token)
-  run_maybe_not = run_maybe (is k.Not) (run_token k.Not)
-
-  abbrev pub run_question : Reader Token (Expr → Expr)
-  run_question = run_valued tree.asked (run_both (run_token k.Is) (run_both run_maybe_not (run_one (any is_truth))))
 
   abbrev pub run_between : Reader Token (Option Token → Expr → Expr)
   run_between = run_valued tree.between_bounds (run_both (run_token k.Between) (run_both run_cat (run_both (run_token k.And) run_cat)))

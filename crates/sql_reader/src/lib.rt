@@ -1,6 +1,8 @@
 //! The reader of scripts: bytes to statements, and to expressions.
 #![tactic(auto)]
 
+mod build;
 mod class;
+mod expr;
 mod fault;
 mod tokens;
