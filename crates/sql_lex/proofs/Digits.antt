@@ -18,12 +18,14 @@ digit_fits number digit left few below small =
     let e : 38 - left ≡ suc (38 - suc left) = omega arith in
     rw e (wider number digit (38 - suc left) below small)
 
-most : (number left : ℕ) → number < 10 ^ (38 - suc left) → number < 10 ^ 37
-most number left below =
+narrower : (number few more : ℕ) → few ≤ more → number < 10 ^ few → number < 10 ^ more
+narrower number few more fewer below =
     let some : 0 < 10 = omega arith in
-    let fewer : 38 - suc left ≤ 37 = omega arith in
-    let least : 10 ^ (38 - suc left) ≤ 10 ^ 37 = pow-le-pow_right some fewer in
+    let least : 10 ^ few ≤ 10 ^ more = pow-le-pow_right some fewer in
     omega (arith, below, least)
+
+pub in_38 : (number left : ℕ) → number < 10 ^ (38 - left) → number < 10 ^ 38
+in_38 number left below = narrower number (38 - left) 38 (omega arith) below
 
 digit_value : (b : ℕ) → is_ascii_digit b ≡ true → b - 48 ≤ 9
 digit_value b is = grind (arith, nat_tests)
@@ -44,7 +46,8 @@ module _ (number i : ℕ) (z : List ℕ) (inside : i < length z) where
   fewer = omega (arith, counts (is_ascii_digit (get_or z i 0)) refl)
 
   pub byte_room : digits (drop i z) ≤ 38 → number < 10 ^ (38 - digits (drop i z)) → is_ascii_digit (get_or z i 0) ≡ true → number < 10 ^ 37
-  byte_room few below is = let e : digits (drop i z) ≡ suc (digits (drop (i + 1) z)) = omega (arith, counts true is) in most number (digits (drop (i + 1) z)) (rw e at below)
+  byte_room few below is = let e : digits (drop i z) ≡ suc (digits (drop (i + 1) z)) = omega (arith, counts true is) in
+      narrower number (38 - suc (digits (drop (i + 1) z))) 37 (omega arith) (rw e at below)
 
   pub byte_fits : digits (drop i z) ≤ 38 → number < 10 ^ (38 - digits (drop i z)) → with_byte number (get_or z i 0) < 10 ^ (38 - digits (drop (i + 1) z))
   byte_fits few below = elim (is_ascii_digit (get_or z i 0)) as (λ v. is_ascii_digit (get_or z i 0) ≡ v → (if v then 10 * number + (get_or z i 0 - 48) else number) < 10 ^ (38 - digits (drop (i + 1) z))) [

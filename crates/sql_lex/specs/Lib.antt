@@ -1,7 +1,9 @@
 pub mod Bytes
+pub mod Content
 pub mod Numbers
 pub mod Quotes
 pub mod Signs
+pub mod Stand
 pub mod Tables
 pub mod Tokens
 pub mod Words

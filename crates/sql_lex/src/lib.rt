@@ -2,6 +2,7 @@
 #![tactic(auto)]
 
 mod bytes;
+mod content;
 mod lexer;
 mod numbers;
 mod quotes;
@@ -9,4 +10,8 @@ mod signs;
 mod tables;
 mod words;
 
+pub use content::{Number, bytes_of, name_of, number_of, text_of};
 pub use lexer::read_tokens_of;
+
+#[cfg(test)]
+mod tests;

@@ -8,10 +8,10 @@ use crate::bytes::{Class, Piece, are_in, run};
 use sql_tree::Kind;
 
 /// Most digits of a number, leading zeros left out.
-const MOST_DIGITS: usize = 38;
+pub(crate) const MOST_DIGITS: usize = 38;
 
-// How many bytes a point and the digits behind it have at the front.
-fn fraction_len(bytes: &[u8]) -> usize
+/// How many bytes a point and the digits behind it have at the front.
+pub(crate) fn fraction_len(bytes: &[u8]) -> usize
     ensures value { result ≡ spec.fraction_len bytes.now }
     ensures within { result ≤ length bytes.now }
 {
@@ -24,7 +24,8 @@ fn fraction_len(bytes: &[u8]) -> usize
     }
 }
 
-fn number_len(bytes: &[u8]) -> usize
+/// The length of the number at the front.
+pub(crate) fn number_len(bytes: &[u8]) -> usize
     ensures value { result ≡ spec.number_len bytes.now }
     ensures within { result ≤ length bytes.now }
     ensures moves { 0 < length bytes.now → in_class Class.Digit (slice_index bytes.now 0) ≡ true → 0 < result }
@@ -35,7 +36,8 @@ fn number_len(bytes: &[u8]) -> usize
 
 /// How many digits a number has behind its leading zeros.
 pub(crate) fn significant(number: &[u8]) -> usize
-    ensures { result ≡ spec.significant number.now }
+    ensures value { result ≡ spec.significant number.now }
+    ensures within { result ≤ length number.now }
 {
     let zeros = run(Class::Lead, number);
     number[zeros..]
@@ -60,7 +62,8 @@ fn with_byte(number: u128, byte: u8) -> u128
 fn spelled_from(mut number: u128, bytes: &[u8]) -> u128
     requires few { spec.digits bytes.now ≤ 38 }
     requires below { number < 10 ^ (38 - spec.digits bytes.now) }
-    ensures { result ≡ spec.spelled_from number bytes.now }
+    ensures value { result ≡ spec.spelled_from number bytes.now }
+    ensures below { result < 10 ^ 38 }
 {
     for byte in bytes {
         number = with_byte(number, *byte);
@@ -71,7 +74,8 @@ fn spelled_from(mut number: u128, bytes: &[u8]) -> u128
 /// The number that the digits spell, the point left out.
 pub(crate) fn unscaled(number: &[u8]) -> u128
     requires { spec.significant number.now ≤ 38 }
-    ensures { result ≡ spec.unscaled number.now }
+    ensures value { result ≡ spec.unscaled number.now }
+    ensures below { result < 10 ^ 38 }
 {
     spelled_from(0, &number[run(Class::Lead, number)..])
 }

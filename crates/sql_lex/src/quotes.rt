@@ -7,8 +7,8 @@ use crate::bytes::{Class, Piece, are_in, begins_with, is_text, run};
 use crate::tables::is_table_name;
 use sql_tree::Kind;
 
-// How many bytes stand up to the quote that ends a quoted text, with it.
-fn closing(quote: u8, mut bytes: &[u8]) -> Option<usize>
+/// How many bytes stand up to the quote that ends a quoted text, with it.
+pub(crate) fn closing(quote: u8, mut bytes: &[u8]) -> Option<usize>
     ensures value { result ≡ spec.closing quote false 0 bytes.entry.now }
     ensures within { IfSome result (λ len. (1 ≤ len) × (len ≤ length bytes.entry.now)) }
 {
@@ -25,16 +25,17 @@ fn closing(quote: u8, mut bytes: &[u8]) -> Option<usize>
     None
 }
 
-// What stands between the first byte and the last.
+/// What stands between the first byte and the last.
 pub(crate) fn inside(token: &[u8]) -> &[u8]
-    requires { 2 ≤ length token.now }
     ensures { result.now ≡ spec.inside token.now }
 {
-    &token[1..token.len() - 1]
+    match token {
+        [_, inner @ .., _] => inner,
+        _ => &[],
+    }
 }
 
 fn text_kind(token: &[u8]) -> Kind
-    requires { 2 ≤ length token.now }
     ensures { result ≡ spec.text_kind token.now }
 {
     if !is_text(token) {
@@ -57,7 +58,6 @@ fn name_kind(token: &[u8]) -> Kind
 }
 
 fn quoted_kind(quote: u8, token: &[u8]) -> Kind
-    requires { 2 ≤ length token.now }
     ensures { result ≡ spec.quoted_kind quote token.now }
 {
     if quote == b'`' {
@@ -85,16 +85,17 @@ pub(crate) fn quoted(quote: u8, bytes: &[u8]) -> Piece
     }
 }
 
-// The digits between `X'` and the last quote.
+/// The digits between `X'` and the last quote.
 pub(crate) fn hex_digits(token: &[u8]) -> &[u8]
-    requires { 3 ≤ length token.now }
     ensures { result.now ≡ spec.hex_digits token.now }
 {
-    &token[2..token.len() - 1]
+    match token {
+        [_, _, digits @ .., _] => digits,
+        _ => &[],
+    }
 }
 
 fn bytes_kind(token: &[u8]) -> Kind
-    requires { 3 ≤ length token.now }
     ensures { result ≡ spec.bytes_kind token.now }
 {
     let digits = hex_digits(token);

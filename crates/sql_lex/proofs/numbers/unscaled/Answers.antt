@@ -8,9 +8,9 @@ use Rattle.sql_lex.proofs.numbers.unscaled.Goals as goal
 pub spelled_from-requires-clause-below : goal.spelled_from-requires-clause-below
 spelled_from-requires-clause-below c = one-le-pow _ 10 (omega arith)
 
-pub returns : goal.returns
+pub returns-clause-value : goal.returns-clause-value
 unfolding unscaled
-returns c =
-    let e = rw (take_rest c.args.number.now c.run.result) at c.spelled_from.ensures in
+returns-clause-value c =
+    let e = rw (take_rest c.args.number.now c.run.result) at c.spelled_from.ensures.value in
     let behind = rw c.run.ensures.value at e in
     behind ∙ zeros_spell_nothing c.args.number.now
