@@ -6,13 +6,14 @@ use Rattle.std.specs.Str.{is_utf8}
 use Rattle.std.proofs.lemmas.Bool.Decides.{nat_tests}
 use Rattle.std.proofs.lemmas.List.Sums.{prefix_len-le-length}
 use Rattle.sql_tree.specs.declared.token.Kind.{Kind}
+use Rattle.sql_tree.specs.declared.token.Kind.TheVariants as k
 use Rattle.sql_lex.specs.declared.bytes.Class.{Class}
 use Rattle.sql_lex.specs.declared.bytes.Class.TheVariants as class
 use Rattle.sql_lex.specs.declared.bytes.Piece.{Piece}
 use Rattle.sql_lex.specs.declared.lexer.Before.{Before}
 use Rattle.sql_lex.specs.Bytes.{is_in, run, begins_with, begins_comment, begins_bytes}
 use Rattle.sql_lex.specs.Numbers.{number_len, fraction_len, number}
-use Rattle.sql_lex.specs.Quotes.{closing, closed, quoted, bytes}
+use Rattle.sql_lex.specs.Quotes.{closing, closed, quoted, bytes, bytes_kind}
 use Rattle.sql_lex.specs.Signs.{sign_in, signs, sign}
 use Rattle.sql_lex.specs.Tables.{table_len, table}
 use Rattle.sql_lex.specs.Tokens.{common, token, gap, comment_len, is_table_due}
@@ -34,6 +35,11 @@ both_true : (p q : Bool) → (p && q) ≡ true → (p ≡ true) × (q ≡ true)
 both_true true q h = (refl, h)
 both_true false q h = absurd (cc)
 
+-- what holds of both branches holds of the choice
+choose : {A : Type 0} (P : A → Type 0) (b : Bool) (x y : A) → (b ≡ true → P x) → (b ≡ false → P y) → P (if b then x else y)
+choose P true x y f g = f refl
+choose P false x y f g = g refl
+
 table_within : (z : List ℕ) → table_len z ≤ length z
 table_within [] = omega arith
 table_within (b ∷ z) =
@@ -42,9 +48,18 @@ table_within (b ∷ z) =
       | false ↦ omega (arith, table_within z)
     ]
 
+at_most_more : (end : Option ℕ) (m n : ℕ) → m ≤ n → IfSome end (λ len. len ≤ m) → IfSome end (λ len. len ≤ n)
+at_most_more None m n le h = tt
+at_most_more (Some len) m n le h = omega (arith, le, h)
+
 closing_within : (q : ℕ) (second : Bool) (at : ℕ) (z : List ℕ) → IfSome (closing q second at z) (λ len. len ≤ at + length z)
 closing_within q second at [] = tt
-closing_within q second at (b ∷ z) = ?
+closing_within q second at (b ∷ z) =
+    choose (λ end. IfSome end (λ len. len ≤ at + suc (length z))) (not second && (b == q && not (begins_with q z)))
+      (Some (at + 1)) (closing q (not second && b == q) (at + 1) z)
+      (λ _. omega arith)
+      (λ _. at_most_more (closing q (not second && b == q) (at + 1) z) (at + 1 + length z) (at + suc (length z)) (omega arith)
+        (closing_within q (not second && b == q) (at + 1) z))
 
 fraction_within : (z : List ℕ) → fraction_len z ≤ length z
 fraction_within [] = omega arith
@@ -61,7 +76,7 @@ number_within z =
 stands_within : (s z : List ℕ) → starts_with nat_eq z s ≡ true → length s ≤ length z
 stands_within [] z h = omega arith
 stands_within (a ∷ s) [] h = absurd (cc)
-stands_within (a ∷ s) (b ∷ z) h = ?
+stands_within (a ∷ s) (b ∷ z) h = omega (arith, stands_within s z (both_true (nat_eq a b) (starts_with nat_eq z s) h).1)
 
 in_within : (list : List (List ℕ × Kind)) (b : ℕ) (z : List ℕ) → (sign_in list (b ∷ z)).len ≤ suc (length z)
 in_within [] b z = omega arith
@@ -81,18 +96,60 @@ quoted_front q b z = elim (closing q false 0 z) as (λ v. IfSome v (λ len. len 
   | Some len ↦ λ h. record { some = omega arith; within = omega arith }
   ] (closing_within q false 0 z)
 
+leaves_room : (n m : ℕ) → (n + 2 == suc (suc m)) ≡ false → n ≤ m → n + 3 ≤ suc (suc m)
+leaves_room n m differs le = grind (arith, nat_tests)
+
 bytes_front : (z : List ℕ) → begins_bytes z ≡ true → IsFront z (bytes z)
-bytes_front z is = ?
+bytes_front [] is = absurd (cc)
+bytes_front (b ∷ []) is = absurd (let h : false ≡ true = (both_true (b == 88 || b == 120) false is).1 in cc)
+bytes_front (b ∷ c ∷ z) is =
+    choose (IsFront (b ∷ c ∷ z)) (run class.Inner z + 2 == suc (suc (length z)))
+      (record { kind = k.Bad; len = suc (suc (length z)) })
+      (record { kind = bytes_kind (take (run class.Inner z + 3) (b ∷ c ∷ z)); len = run class.Inner z + 3 })
+      (λ _. record { some = omega arith; within = omega arith })
+      (λ e. record { some = omega arith; within = leaves_room (run class.Inner z) (length z) e (run_within class.Inner z) })
+
+letter_goes_on : (b : ℕ) → is_in class.Letter b ≡ true → is_in class.Word b ≡ true
+letter_goes_on b is = grind (arith, nat_tests)
+
+word_front : (b : ℕ) (z : List ℕ) → is_in class.Letter b ≡ true → IsFront (b ∷ z) (word (b ∷ z))
+word_front b z is = record { some = run_some class.Word b z (letter_goes_on b is); within = run_within class.Word (b ∷ z) }
+
+number_front : (b : ℕ) (z : List ℕ) → is_in class.Digit b ≡ true → IsFront (b ∷ z) (number (b ∷ z))
+number_front b z is = record { some = omega (arith, run_some class.Digit b z is); within = number_within (b ∷ z) }
 
 common_front : (b : ℕ) (z : List ℕ) → IsFront (b ∷ z) (common (b ∷ z))
-common_front b z = ?
+common_front b z =
+    let P : Piece → Type 0 = IsFront (b ∷ z) in
+    choose P (begins_bytes (b ∷ z)) (bytes (b ∷ z)) _ (λ e. bytes_front (b ∷ z) e) (λ _.
+    choose P (is_in class.Letter b) (word (b ∷ z)) _ (λ e. word_front b z e) (λ _.
+    choose P (is_in class.Digit b) (number (b ∷ z)) _ (λ e. number_front b z e) (λ _.
+    choose P (b == 39 || b == 96) (quoted b (b ∷ z)) (sign (b ∷ z)) (λ _. quoted_front b b z) (λ _. sign_front b z))))
+
+dash_in_line : (b : ℕ) → (b == 45) ≡ true → is_in class.Line b ≡ true
+dash_in_line b is = grind (arith, nat_tests)
+
+above_zero : (n : ℕ) → nat_lt 0 n ≡ true → 1 ≤ n
+above_zero n is = grind (arith, nat_tests)
 
 pub token_front : (state : Before) (z : List ℕ) → 0 < length z → IsFront z (token state z)
 unfolding token
 token_front state [] some = absurd (omega arith)
-token_front state (b ∷ z) some = ?
+token_front state (b ∷ z) some =
+    let P : Piece → Type 0 = IsFront (b ∷ z) in
+    choose P (begins_comment (b ∷ z)) (record { kind = k.Bad; len = run class.Line (b ∷ z) }) _
+      (λ e. record { some = run_some class.Line b z (dash_in_line b (both_true (b == 45) (begins_with 45 z) e).0); within = run_within class.Line (b ∷ z) })
+      (λ _. choose P (is_table_due state && nat_lt 0 (table_len (b ∷ z))) (table (b ∷ z)) (common (b ∷ z))
+        (λ e. record { some = above_zero (table_len (b ∷ z)) (both_true (is_table_due state) (nat_lt 0 (table_len (b ∷ z))) e).1; within = table_within (b ∷ z) })
+        (λ _. common_front b z))
+
+comment_within : (z : List ℕ) → comment_len z ≤ length z
+comment_within z = choose (λ n. n ≤ length z) (is_utf8 (take (run class.Line z) z)) (run class.Line z) 0 (λ _. run_within class.Line z) (λ _. omega arith)
 
 pub gap_within : (z : List ℕ) → gap z ≤ length z
 unfolding gap
 gap_within [] = omega arith
-gap_within (b ∷ z) = ?
+gap_within (b ∷ z) =
+    let P : ℕ → Type 0 = λ n. n ≤ length (b ∷ z) in
+    choose P (is_in class.Blank b) (run class.Blank (b ∷ z)) _ (λ _. run_within class.Blank (b ∷ z))
+      (λ _. choose P (begins_comment (b ∷ z)) (comment_len (b ∷ z)) 0 (λ _. comment_within (b ∷ z)) (λ _. omega arith))

@@ -16,6 +16,11 @@ pub record IsPart (size : ℕ) (span : Span) : Type 0 where
   pub some : span.start < span.«end»
   pub within : span.«end» ≤ size
 
+-- from a place on each part begins where the one before it has ended, or later
+abbrev pub AreParts : ℕ → ℕ → List Token → Type 0
+AreParts at size [] = Unit {0}
+AreParts at size (t ∷ ts) = (at ≤ t.span.start) × IsPart size t.span × AreParts t.span.«end» size ts
+
 -- from a place on: white space and comments, then the token that stands there, and so on to the end
 abbrev pub StandFrom : List ℕ → ℕ → Before → List Token → Type 0
 StandFrom z at state [] = IsBlank z at (length z)

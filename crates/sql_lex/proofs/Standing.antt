@@ -1,0 +1,89 @@
+-- Tokens stand in bytes one after the other.
+use Rattle.std.proofs.Common.{◌≡◌, ◌∙◌, ℕ, zero, suc, ◌+◌, ◌-◌, ◌<◌, ◌≤◌, true, false, nat_lt, List, [], ◌∷◌, length, drop, length-drop, refl, arith, sym, ap, subst}
+use Rattle.std.proofs.lemmas.Bool.Decides.{nat_tests}
+use Rattle.std.proofs.lemmas.List.{drop-drop}
+use Rattle.sql_tree.specs.declared.token.Token.{Token}
+use Rattle.sql_lex.specs.declared.bytes.Piece.{Piece}
+use Rattle.sql_lex.specs.declared.lexer.Before.{Before}
+use Rattle.sql_lex.specs.declared.lexer.Before.TheVariants as before
+use Rattle.sql_lex.specs.Stand.{AreParts, IsBlank, IsPart, StandFrom, StandIn}
+use Rattle.sql_lex.specs.Stand.IsBlank.{nothing, more}
+use Rattle.sql_lex.specs.Tokens.{gap, token, after, placed, scan, tokens}
+use Rattle.sql_lex.proofs.Scan.{scan_gap, scan_token}
+use Rattle.sql_lex.proofs.Within.{IsFront, token_front, gap_within}
+
+-- with white space in front
+blank_first : (z : List ℕ) (at : ℕ) (state : Before) (ts : List Token) → 0 < gap (drop at z) → StandFrom z (at + gap (drop at z)) state ts → StandFrom z at state ts
+blank_first z at state [] some rest = more at (length z) some rest
+blank_first z at state (t ∷ ts) some rest = (omega (arith, rest.0), more at t.span.start some rest.1, rest.2, rest.3, rest.4)
+
+positive : (n : ℕ) → nat_lt 0 n ≡ true → 0 < n
+positive n is = grind (arith, nat_tests)
+
+not_positive : (n : ℕ) → nat_lt 0 n ≡ false → n ≤ 0
+not_positive n is = grind (arith, nat_tests)
+
+empty : (z : List ℕ) → length z ≤ 0 → z ≡ []
+empty [] h = refl
+empty (b ∷ z) h = absurd (omega arith)
+
+ended : (z : List ℕ) (at : ℕ) (state : Before) → at ≤ length z → length z ≤ at → StandFrom z at state (scan 0 at state (drop at z))
+ended z at state inside past =
+    let e : drop at z ≡ [] = empty (drop at z) (omega (arith, length-drop at z)) in
+    let there : at ≡ length z = omega arith in
+    rw e (subst (λ n. IsBlank z at n) there (nothing at))
+
+module _ (z : List ℕ) (at : ℕ) (state : Before) (inside : at < length z) where
+  with_gap : 0 < gap (drop at z) → StandFrom z (at + gap (drop at z)) state (scan 0 (at + gap (drop at z)) state (drop (at + gap (drop at z)) z))
+      → StandFrom z at state (scan 0 at state (drop at z))
+  with_gap some rest =
+      let g = gap (drop at z) in
+      let step = scan_gap at state (drop at z) some (gap_within (drop at z)) ∙ ap (scan 0 (at + g) state) (drop-drop g at z) in
+      subst (StandFrom z at state) (sym step) (blank_first z at state (scan 0 (at + g) state (drop (at + g) z)) some rest)
+
+  with_token : gap (drop at z) ≤ 0
+      → StandFrom z (at + (token state (drop at z)).len) (after state (token state (drop at z)).kind)
+          (scan 0 (at + (token state (drop at z)).len) (after state (token state (drop at z)).kind) (drop (at + (token state (drop at z)).len) z))
+      → StandFrom z at state (scan 0 at state (drop at z))
+  with_token none rest =
+      let t = token state (drop at z) in
+      let some : 0 < length (drop at z) = omega (arith, length-drop at z) in
+      let front = token_front state (drop at z) some in
+      let next = after state t.kind in
+      let step = scan_token at state (drop at z) none some front.some front.within ∙ ap (λ (y : List ℕ). placed at t ∷ scan 0 (at + t.len) next y) (drop-drop t.len at z) in
+      let part : IsPart (length z) (placed at t).span = record { some = omega (arith, front.some); within = omega (arith, front.within, length-drop at z) } in
+      let here : at ≤ at = omega arith in
+      subst (StandFrom z at state) (sym step) (here, nothing at, part, refl, rest)
+
+-- `left` is a bound on the bytes that are left
+stand_from : (left : ℕ) (z : List ℕ) (at : ℕ) (state : Before) → at ≤ length z → length z ≤ at + left → StandFrom z at state (scan 0 at state (drop at z))
+stand_from zero z at state inside room = ended z at state inside (omega arith)
+stand_from (suc left) z at state inside room =
+    elim (nat_lt 0 (length (drop at z))) as (λ v. nat_lt 0 (length (drop at z)) ≡ v → StandFrom z at state (scan 0 at state (drop at z))) [
+      false ↦ λ e. ended z at state inside (omega (arith, not_positive (length (drop at z)) e, length-drop at z))
+    | true ↦ λ e.
+        let before_end : at < length z = omega (arith, positive (length (drop at z)) e, length-drop at z) in
+        elim (nat_lt 0 (gap (drop at z))) as (λ v. nat_lt 0 (gap (drop at z)) ≡ v → StandFrom z at state (scan 0 at state (drop at z))) [
+          true ↦ λ g.
+            let some = positive (gap (drop at z)) g in
+            with_gap z at state before_end some
+              (stand_from left z (at + gap (drop at z)) state (omega (arith, gap_within (drop at z), length-drop at z)) (omega (arith, some)))
+        | false ↦ λ g.
+            let front = token_front state (drop at z) (positive (length (drop at z)) e) in
+            with_token z at state before_end (not_positive (gap (drop at z)) g)
+              (stand_from left z (at + (token state (drop at z)).len) (after state (token state (drop at z)).kind)
+                (omega (arith, front.within, length-drop at z)) (omega (arith, front.some)))
+        ] refl
+    ] refl
+
+pub tokens_stand : (z : List ℕ) → StandIn z (tokens z)
+unfolding StandIn tokens
+tokens_stand z = stand_from (length z) z 0 before.Other (omega arith) (omega arith)
+
+ascend : (z : List ℕ) (at : ℕ) (state : Before) (ts : List Token) → StandFrom z at state ts → AreParts at (length z) ts
+ascend z at state [] h = tt
+ascend z at state (t ∷ ts) h = (h.0, h.2, ascend z t.span.«end» (after state t.kind) ts h.4)
+
+pub spans_ascend : (z : List ℕ) → AreParts 0 (length z) (tokens z)
+unfolding StandIn
+spans_ascend z = ascend z 0 before.Other (tokens z) (tokens_stand z)
