@@ -12,7 +12,9 @@ use Rattle.sql_tree.specs.declared.token.Token.{Token}
 use Rattle.sql_tree.specs.declared.tree.Expr.{Expr}
 use Rattle.sql_grammar.specs.Tree as tree
 use Rattle.sql_grammar.specs.Grammar.{list}
-use Rattle.sql_grammar.specs.Reading.{run_token, run_opening, run_type, run_type_inside, run_disjunction, run_inside}
+use Rattle.sql_grammar.specs.Reading.{run_token, run_opening, run_type, run_type_inside, run_disjunction, run_inside, run_predicate, run_range, run_cat, run_test, first_predicate}
+use Rattle.sql_tree.specs.Kinds.{is, any, compares}
+use Rattle.sql_tree.specs.declared.token.Kind.TheVariants as k
 
 -- ---- a bracket that is opened
 
@@ -94,3 +96,13 @@ tested_so x (Err rest) = refl
 pub ranged : (not : Option Token) (x : Expr) (r : Outcome Token (Option Token → Expr → Expr)) → made (λ f. f x) (made tree.maybe_not (made (λ b. (not, b)) r)) ≡ made (λ f. f not x) r
 ranged not x (Ok p) = refl
 ranged not x (Err rest) = refl
+
+-- what is neither a comparison nor IS
+pub ranges : (depth : ℕ) (f : Reader Token Expr) (x : Expr) (ts : List Token) → sees (any compares) ts ≡ false → sees (is k.Is) ts ≡ false
+    → made (λ f. f x) (run_predicate depth f ts) ≡ made (λ f. f x) (run_range depth f ts)
+ranges depth f x ts a b = rw (a, b) refl
+
+-- an operand that something is asked of
+pub tests : (depth : ℕ) (f : Reader Token Expr) (ts us : List Token) (x : Expr) → run_cat depth f ts ≡ Ok (x, us) → sees first_predicate us ≡ true
+    → run_test depth f ts ≡ made (λ f. f x) (run_predicate depth f us)
+tests depth f ts us x a b = rw (a, b) (tested_so x (run_predicate depth f us))

@@ -425,10 +425,10 @@ fn test(alloc: Global, tokens: &mut Tokens<'_>, depth: usize) -> Result<Expr, Fa
     ensures { Gives (reading.run_test depth (run_inside depth) tokens.old) result tokens.new }
 {
     let operand = chain(alloc, tokens, depth, Level::Concat)?;
-    if !tokens.sees_predicate() {
-        return Ok(operand);
+    if tokens.sees_predicate() {
+        return predicate(alloc, tokens, depth, operand);
     }
-    predicate(alloc, tokens, depth, operand)
+    Ok(operand)
 }
 
 #[cycle(expr)]
