@@ -316,7 +316,7 @@ fn sign(alloc: Global, tokens: &mut Tokens<'_>, depth: usize) -> Result<Expr, Fa
 
 // Operands of a level with its operators between them.
 #[cycle(expr)]
-fn chain(alloc: Global, tokens: &mut Tokens<'_>, depth: usize, level: Level) -> Result<Expr, Fault>
+pub(crate) fn chain(alloc: Global, tokens: &mut Tokens<'_>, depth: usize, level: Level) -> Result<Expr, Fault>
     ensures { Gives (reading.run_chain (operators level) (run_operand depth (run_inside depth) level) tokens.old) result tokens.new }
 {
     let mut left = operand(alloc, tokens, depth, level)?;

@@ -5,4 +5,5 @@ mod build;
 mod class;
 mod expr;
 mod fault;
+mod statement;
 mod tokens;
