@@ -1,2 +1,4 @@
 pub mod Readers
 pub mod Turns
+pub mod Fronts
+pub mod Growth

@@ -1,0 +1,194 @@
+-- Of each production: what begins it goes on to what it derives, where one more bracket may be opened.
+use Rattle.std.proofs.Common.{◌≡◌, ℕ, zero, suc, Bool, true, List, [], ◌∷◌, refl}
+use Rattle.std.specs.Prelude.{Option, Some, None}
+use Rattle.token_lang.specs.Lang.{Lang, one, nothing, both, either, valued, many, any_of}
+use Rattle.token_lang.specs.Exact.{Local, Grows}
+use Rattle.token_lang.specs.Meets.{Plain}
+use Rattle.token_lang.proofs.Place.{one_local, both_local, either_local, valued_local, many_local}
+use Rattle.token_lang.proofs.All.{one_plain, maybe_plain}
+use Rattle.token_lang.proofs.Grow.{one_grows, nothing_grows, never_grows, both_grows, either_grows, valued_grows, many_grows, limit_grows, any_grows, all_grow}
+use Rattle.sql_tree.specs.declared.token.Kind.{Kind}
+use Rattle.sql_tree.specs.declared.token.Kind.TheVariants as k
+use Rattle.sql_tree.specs.declared.token.Token.{Token}
+use Rattle.sql_tree.specs.declared.tree.Expr.{Expr}
+use Rattle.sql_tree.specs.declared.tree.WrittenType.{WrittenType}
+use Rattle.sql_tree.specs.Kinds.{is, any, names, names_alone, is_value, compares, multiplies, signs, is_truth, is_plain_type, is_text, is_table, dates}
+use Rattle.sql_grammar.specs.Grammar as g
+use Rattle.sql_grammar.specs.Reading.{run_inside, run_type_inside}
+use Rattle.sql_grammar.specs.Tree as tree
+use Rattle.sql_grammar.proofs.Readers.{inside_leads, type_inside_leads}
+use Rattle.sql_grammar.proofs.Fronts.{opening_plain, next_plain, some_plain, commas_plain, type_plain, type_inside_plain, branch_plain, otherwise_plain, primary_plain, sign_plain, prod_plain, sum_plain, cat_plain, negation_plain, conjunction_plain, inside_plain, expr_plain, any_expr_plain, statement_plain, ended_plain}
+
+-- a token of a kind
+abbrev a : Kind → Token
+a kind = record { kind = kind; span = record { start = 0; end = 0 } }
+
+-- some token of a class
+class_grows : (class : Kind → Bool) (kind : Kind) → class kind ≡ true → Grows (one (any class)) (one (any class))
+class_grows class kind h = one_grows (any class) (a kind) h
+
+token_grows : (kind : Kind) → is kind (a kind) ≡ true → Grows (g.token kind) (g.token kind)
+token_grows kind h = one_grows (is kind) (a kind) h
+
+token_local : (kind : Kind) → Local (g.token kind)
+token_local kind = one_local (is kind)
+
+opening_grows : (depth : ℕ) (kind : Kind) → is kind (a kind) ≡ true → Grows (g.opening depth kind) (g.opening (suc depth) kind)
+unfolding g.opening
+opening_grows zero kind h = never_grows (g.opening 1 kind) (a kind ∷ [], a kind, (refl, h))
+opening_grows (suc depth) kind h = token_grows kind h
+
+open_local : (depth : ℕ) (kind : Kind) → Local (g.opening depth kind)
+open_local depth kind = (opening_plain depth kind).local
+
+maybe_grows : {A : Type 0} {D D' : Lang Token A} → Grows D D' → Grows (g.maybe D) (g.maybe D')
+maybe_grows x = either_grows (valued_grows Some x) (valued_grows (λ _. None) nothing_grows)
+
+maybe_local : {A : Type 0} {D : Lang Token A} → Plain D → Local (g.maybe D)
+maybe_local x = (maybe_plain x).local
+
+chain_grows : {D D' : Lang Token Expr} (operator : Token → Bool) (t : Token) → operator t ≡ true → Grows D D' → Local D' → Grows (g.chain operator D) (g.chain operator D')
+chain_grows operator t h x l =
+    let each = both_local (one_local operator) l in
+    valued_grows tree.all_joined (both_grows x (many_grows (both_grows (one_grows operator t h) x (one_local operator)) each) l)
+
+signed_grows : {D D' : Lang Token Expr} (sign : Token → Bool) (t : Token) → sign t ≡ true → Grows D D' → Grows (g.signed sign D) (g.signed sign D')
+signed_grows sign t h x = valued_grows tree.all_prefixed (both_grows (many_grows (one_grows sign t h) (one_local sign)) x (many_local (one_local sign)))
+
+module _ {A : Type 0} {D D' : Lang Token A} (x : Grows D D') (l : Plain D') where
+  some_grows : Grows (g.some D) (g.some D')
+  some_grows = valued_grows g.list (both_grows x (many_grows x l.local) l.local)
+
+  next_grows : Grows (valued g.second (both (g.token k.Comma) D)) (valued g.second (both (g.token k.Comma) D'))
+  next_grows = valued_grows g.second (both_grows (token_grows k.Comma refl) x (token_local k.Comma))
+
+  commas_grows : Grows (g.commas D) (g.commas D')
+  commas_grows = valued_grows g.list (both_grows x (many_grows next_grows (next_plain l).local) l.local)
+
+-- ---- types
+
+type_grows : (depth : ℕ) → Grows (g.written_type depth) (g.written_type (suc depth))
+type_grows depth = either_grows (valued_grows tree.plain_type (class_grows is_plain_type k.Boolean refl))
+  (valued_grows tree.decimal_type (both_grows (token_grows k.DecimalWord refl) (both_grows (opening_grows depth k.Open refl)
+    (both_grows (token_grows k.Whole refl) (both_grows (token_grows k.Comma refl) (both_grows (token_grows k.Whole refl) (token_grows k.Close refl) (token_local k.Whole))
+      (token_local k.Comma)) (token_local k.Whole)) (open_local (suc depth) k.Open)) (token_local k.DecimalWord)))
+
+a_type : (ts : List Token) × (t : WrittenType) × (g.type_inside 1).reads ts t []
+unfolding g.type_inside run_type_inside
+a_type = let ts = a k.Boolean ∷ [] in (ts, tree.plain_type (a k.Boolean), (type_inside_leads 1).meets.exact.fits ts)
+
+type_inside_grows : (depth : ℕ) → Grows (g.type_inside depth) (g.type_inside (suc depth))
+unfolding g.type_inside
+type_inside_grows zero = never_grows (g.type_inside 1) a_type
+type_inside_grows (suc depth) = type_grows depth
+
+question_grows : Grows g.question g.question
+question_grows = valued_grows tree.asked (both_grows (token_grows k.Is refl) (both_grows (maybe_grows (token_grows k.Not refl)) (class_grows is_truth k.Null refl) (maybe_local (one_plain (is k.Not)))) (token_local k.Is))
+
+-- ---- expressions
+
+module _ (depth : ℕ) {B B' : Lang Token Expr} (x : Grows B B') (l : Plain B') where
+  group_grows : Grows (g.group depth B) (g.group (suc depth) B')
+  group_grows = valued_grows tree.grouped (both_grows (opening_grows depth k.Open refl) (both_grows x (token_grows k.Close refl) l.local) (open_local (suc depth) k.Open))
+
+  arguments_grows : Grows (g.arguments depth B) (g.arguments (suc depth) B')
+  arguments_grows = valued_grows tree.called (both_grows (opening_grows depth k.Open refl)
+      (both_grows (maybe_grows (commas_grows x l)) (token_grows k.Close refl) (maybe_local (commas_plain l))) (open_local (suc depth) k.Open))
+
+  tail_grows : Grows (g.tail depth B) (g.tail (suc depth) B')
+  tail_grows = either_grows (valued_grows tree.qualified (both_grows (token_grows k.Dot refl) (class_grows names k.Name refl) (token_local k.Dot))) arguments_grows
+
+  dated_grows : Grows (g.dated depth B) (g.dated (suc depth) B')
+  dated_grows = valued_grows tree.named (both_grows (class_grows dates k.Date refl) (maybe_grows (either_grows (valued_grows tree.dated (class_grows is_text k.Text refl)) tail_grows)) (one_local (any dates)))
+
+  named_grows : Grows (g.named depth B) (g.named (suc depth) B')
+  named_grows = valued_grows tree.named (both_grows (class_grows names_alone k.Name refl) (maybe_grows tail_grows) (one_local (any names_alone)))
+
+  branch_grows : Grows (g.branch depth B) (g.branch (suc depth) B')
+  branch_grows = valued_grows tree.branched (both_grows (token_grows k.When refl) (both_grows x (both_grows (token_grows k.Then refl) x (token_local k.Then)) l.local) (token_local k.When))
+
+  otherwise_grows : Grows (g.otherwise depth B) (g.otherwise (suc depth) B')
+  otherwise_grows = valued_grows g.second (both_grows (token_grows k.Else refl) x (token_local k.Else))
+
+  case_grows : Grows (g.case depth B) (g.case (suc depth) B')
+  case_grows =
+      let branch = branch_plain (suc depth) l in
+      let end = both_grows (maybe_grows otherwise_grows) (token_grows k.End refl) (maybe_local (otherwise_plain (suc depth) l)) in
+      valued_grows tree.cased (both_grows (opening_grows depth k.Case refl) (both_grows (some_grows branch_grows branch) end (some_plain branch).local) (open_local (suc depth) k.Case))
+
+  cast_grows : Grows (g.cast depth B) (g.cast (suc depth) B')
+  cast_grows = valued_grows tree.cast_to (both_grows (token_grows k.Cast refl) (both_grows (opening_grows depth k.Open refl) (both_grows x (both_grows (token_grows k.As refl)
+      (both_grows (type_inside_grows depth) (token_grows k.Close refl) (type_inside_plain (suc depth)).local) (token_local k.As)) l.local) (open_local (suc depth) k.Open)) (token_local k.Cast))
+
+  primary_grows : Grows (g.primary depth B) (g.primary (suc depth) B')
+  primary_grows = either_grows (valued_grows tree.literal (class_grows is_value k.Whole refl)) (either_grows dated_grows (either_grows group_grows (either_grows named_grows (either_grows case_grows cast_grows))))
+
+  sign_grows : Grows (g.sign depth B) (g.sign (suc depth) B')
+  sign_grows = signed_grows (any signs) (a k.Plus) refl primary_grows
+
+  prod_grows : Grows (g.prod depth B) (g.prod (suc depth) B')
+  prod_grows = chain_grows (any multiplies) (a k.Star) refl sign_grows (sign_plain (suc depth) l).local
+
+  sum_grows : Grows (g.sum depth B) (g.sum (suc depth) B')
+  sum_grows = chain_grows (any signs) (a k.Plus) refl prod_grows (prod_plain (suc depth) l).local
+
+  cat_grows : Grows (g.cat depth B) (g.cat (suc depth) B')
+  cat_grows = chain_grows (is k.Concat) (a k.Concat) refl sum_grows (sum_plain (suc depth) l).local
+
+  comparison_grows : Grows (g.comparison depth B) (g.comparison (suc depth) B')
+  comparison_grows = valued_grows tree.compared (both_grows (class_grows compares k.Equal refl) cat_grows (one_local (any compares)))
+
+  between_grows : Grows (g.between depth B) (g.between (suc depth) B')
+  between_grows = valued_grows tree.between_bounds (both_grows (token_grows k.Between refl) (both_grows cat_grows (both_grows (token_grows k.And refl) cat_grows (token_local k.And)) (cat_plain (suc depth) l).local) (token_local k.Between))
+
+  among_grows : Grows (g.among depth B) (g.among (suc depth) B')
+  among_grows = valued_grows tree.among (both_grows (token_grows k.In refl) (both_grows (opening_grows depth k.Open refl) (both_grows (commas_grows x l) (token_grows k.Close refl) (commas_plain l).local) (open_local (suc depth) k.Open)) (token_local k.In))
+
+  range_grows : Grows (g.range depth B) (g.range (suc depth) B')
+  range_grows = valued_grows tree.maybe_not (both_grows (maybe_grows (token_grows k.Not refl)) (either_grows between_grows among_grows) (maybe_local (one_plain (is k.Not))))
+
+  test_grows : Grows (g.test depth B) (g.test (suc depth) B')
+  test_grows = valued_grows tree.tested (both_grows cat_grows (maybe_grows (either_grows comparison_grows (either_grows question_grows range_grows))) (cat_plain (suc depth) l).local)
+
+  negation_grows : Grows (g.negation depth B) (g.negation (suc depth) B')
+  negation_grows = signed_grows (is k.Not) (a k.Not) refl test_grows
+
+  conjunction_grows : Grows (g.conjunction depth B) (g.conjunction (suc depth) B')
+  conjunction_grows = chain_grows (is k.And) (a k.And) refl negation_grows (negation_plain (suc depth) l).local
+
+  disjunction_grows : Grows (g.disjunction depth B) (g.disjunction (suc depth) B')
+  disjunction_grows = chain_grows (is k.Or) (a k.Or) refl conjunction_grows (conjunction_plain (suc depth) l).local
+
+-- an expression of one name
+an_expr : (ts : List Token) × (e : Expr) × (g.inside 1).reads ts e []
+unfolding g.inside run_inside
+an_expr = let ts = a k.Name ∷ [] in (ts, tree.column (a k.Name), (inside_leads 1).meets.exact.fits ts)
+
+inside_grows : (depth : ℕ) → Grows (g.inside depth) (g.inside (suc depth))
+unfolding g.inside
+inside_grows zero = never_grows (g.inside 1) an_expr
+inside_grows (suc depth) = disjunction_grows depth (inside_grows depth) (inside_plain (suc depth))
+
+expr_grows : (depth : ℕ) → Grows (g.expr depth) g.any_expr
+expr_grows depth = any_grows g.expr depth (disjunction_grows depth (inside_grows depth) (inside_plain (suc depth)))
+
+pub any_expr_grows : Grows g.any_expr g.any_expr
+any_expr_grows = all_grow g.expr expr_grows
+
+pub expression_grows : Grows g.expression g.any_expr
+expression_grows = limit_grows 1000 (expr_grows 64)
+
+-- ---- statements
+
+module _ {C C' : Lang Token Expr} (x : Grows C C') (l : Plain C') where
+  show_grows : Grows (g.show_of C) (g.show_of C')
+  show_grows = valued_grows _ (both_grows (token_grows k.Show refl) (both_grows (token_grows k.Files refl) (class_grows is_table k.Table refl) (token_local k.Files)) (token_local k.Show))
+
+  delete_grows : Grows (g.delete_of C) (g.delete_of C')
+  delete_grows = valued_grows _ (both_grows (token_grows k.Delete refl) (both_grows (token_grows k.From refl) (class_grows is_table k.Table refl) (token_local k.From)) (token_local k.Delete))
+
+  statement_grows : Grows (g.statement_of C) (g.statement_of C')
+  statement_grows = either_grows show_grows delete_grows
+
+  pub script_grows : Grows (g.script_of C) (g.script_of C')
+  script_grows = many_grows (valued_grows _ (both_grows statement_grows (token_grows k.Semicolon refl) (statement_plain C').local)) (ended_plain C').local
