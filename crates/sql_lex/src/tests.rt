@@ -1,5 +1,5 @@
 // Tokens by hand, of every form and every kind of bad token, and long scripts.
-use crate::read_tokens_of;
+use crate::{bytes_of, name_of, number_of, read_tokens_of, text_of};
 use sql_tree::{Kind, Token};
 use std::alloc::{AllocError, Global};
 use std::test::Fail;
@@ -321,6 +321,74 @@ fn long_scripts_are_read(rt: HostRuntime) -> Result<(), Fail> {
         let script = repeated(rt.alloc(), part, times)?;
         let tokens = read_tokens_of(rt.alloc(), script.as_slice())?;
         assert_eq!(rt; tokens.len(), count, "{part:?}");
+    }
+    Ok(())
+}
+
+/// Tokens, and the names, texts and bytes that they are.
+const NAMES: [(&[u8], Option<&[u8]>); 8] = [
+    (b"Files", Some(b"Files")),
+    (b"`a``b`", Some(b"a`b")),
+    (b"````", Some(b"`")),
+    (b"`FROM`", Some(b"FROM")),
+    (b"``", None),
+    (b"`a``", None),
+    (b"'a'", None),
+    (b"", None),
+];
+
+const TEXTS: [(&[u8], Option<&[u8]>); 6] = [
+    (b"'it''s'", Some(b"it's")),
+    (b"''''''", Some(b"''")),
+    (b"''", Some(b"")),
+    (b"'a' ", None),
+    (b"'\xff'", None),
+    (b"`a`", None),
+];
+
+const BYTES: [(&[u8], Option<&[u8]>); 6] = [
+    (b"X'0aFf'", Some(b"\x0a\xff")),
+    (b"x''", Some(b"")),
+    (b"X'0'", None),
+    (b"X'0g'", None),
+    (b"X'00", None),
+    (b"'00'", None),
+];
+
+/// Tokens, and the numbers that they are: without the point, their precision and their scale.
+const NUMBERS: [(&[u8], Option<(u128, usize, usize)>); 10] = [
+    (b"0", Some((0, 1, 0))),
+    (b"007", Some((7, 1, 0))),
+    (b"9223372036854775808", Some((9223372036854775808, 19, 0))),
+    (
+        b"99999999999999999999999999999999999999",
+        Some((99999999999999999999999999999999999999, 38, 0)),
+    ),
+    (b"001.50", Some((150, 3, 2))),
+    (b"0.00", Some((0, 2, 2))),
+    (b"0.000000000000000000000000000000000000001", Some((1, 39, 39))),
+    (b"1.00000000000000000000000000000000000000", None),
+    (b"1.", None),
+    (b".5", None),
+];
+
+#[test]
+fn tokens_mean(rt: HostRuntime) -> Result<(), Fail> {
+    for (token, wanted) in NAMES {
+        let name = name_of(rt.alloc(), token)?;
+        assert_eq!(rt; name.as_ref().map(|it| it.as_bytes()), wanted, "{token:?}");
+    }
+    for (token, wanted) in TEXTS {
+        let text = text_of(rt.alloc(), token)?;
+        assert_eq!(rt; text.as_ref().map(|it| it.as_bytes()), wanted, "{token:?}");
+    }
+    for (token, wanted) in BYTES {
+        let bytes = bytes_of(rt.alloc(), token)?;
+        assert_eq!(rt; bytes.as_ref().map(|it| it.as_slice()), wanted, "{token:?}");
+    }
+    for (token, wanted) in NUMBERS {
+        let number = number_of(token).map(|it| (it.unscaled, it.precision, it.scale));
+        assert_eq!(rt; number, wanted, "{token:?}");
     }
     Ok(())
 }
