@@ -1,4 +1,7 @@
 pub mod Digits
+pub mod Fronts
+pub mod Halves
+pub mod Meaning
 pub mod Quoting
 pub mod Scan
 pub mod SignLengths

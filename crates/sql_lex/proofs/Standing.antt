@@ -1,16 +1,15 @@
 -- Tokens stand in bytes one after the other.
-use Rattle.std.proofs.Common.{◌≡◌, ◌∙◌, ℕ, zero, suc, ◌+◌, ◌-◌, ◌<◌, ◌≤◌, true, false, nat_lt, List, [], ◌∷◌, length, drop, length-drop, refl, arith, sym, ap, subst}
+use Rattle.std.proofs.Common.{◌≡◌, ◌∙◌, ℕ, zero, suc, ◌+◌, ◌<◌, ◌≤◌, true, false, nat_lt, List, [], ◌∷◌, length, drop, length-drop, refl, arith, sym, ap, subst}
 use Rattle.std.proofs.lemmas.Bool.Decides.{nat_tests}
 use Rattle.std.proofs.lemmas.List.{drop-drop}
 use Rattle.sql_tree.specs.declared.token.Token.{Token}
-use Rattle.sql_lex.specs.declared.bytes.Piece.{Piece}
 use Rattle.sql_lex.specs.declared.lexer.Before.{Before}
 use Rattle.sql_lex.specs.declared.lexer.Before.TheVariants as before
 use Rattle.sql_lex.specs.Stand.{AreParts, IsBlank, IsPart, StandFrom, StandIn}
 use Rattle.sql_lex.specs.Stand.IsBlank.{nothing, more}
 use Rattle.sql_lex.specs.Tokens.{gap, token, after, placed, scan, tokens}
 use Rattle.sql_lex.proofs.Scan.{scan_gap, scan_token}
-use Rattle.sql_lex.proofs.Within.{IsFront, token_front, gap_within}
+use Rattle.sql_lex.proofs.Within.{token_front, gap_within}
 
 -- with white space in front
 blank_first : (z : List ℕ) (at : ℕ) (state : Before) (ts : List Token) → 0 < gap (drop at z) → StandFrom z (at + gap (drop at z)) state ts → StandFrom z at state ts
@@ -43,7 +42,7 @@ module _ (z : List ℕ) (at : ℕ) (state : Before) (inside : at < length z) whe
 
   with_token : gap (drop at z) ≤ 0
       → StandFrom z (at + (token state (drop at z)).len) (after state (token state (drop at z)).kind)
-          (scan 0 (at + (token state (drop at z)).len) (after state (token state (drop at z)).kind) (drop (at + (token state (drop at z)).len) z))
+      (scan 0 (at + (token state (drop at z)).len) (after state (token state (drop at z)).kind) (drop (at + (token state (drop at z)).len) z))
       → StandFrom z at state (scan 0 at state (drop at z))
   with_token none rest =
       let t = token state (drop at z) in
@@ -60,20 +59,20 @@ stand_from : (left : ℕ) (z : List ℕ) (at : ℕ) (state : Before) → at ≤ 
 stand_from zero z at state inside room = ended z at state inside (omega arith)
 stand_from (suc left) z at state inside room =
     elim (nat_lt 0 (length (drop at z))) as (λ v. nat_lt 0 (length (drop at z)) ≡ v → StandFrom z at state (scan 0 at state (drop at z))) [
-      false ↦ λ e. ended z at state inside (omega (arith, not_positive (length (drop at z)) e, length-drop at z))
-    | true ↦ λ e.
-        let before_end : at < length z = omega (arith, positive (length (drop at z)) e, length-drop at z) in
-        elim (nat_lt 0 (gap (drop at z))) as (λ v. nat_lt 0 (gap (drop at z)) ≡ v → StandFrom z at state (scan 0 at state (drop at z))) [
-          true ↦ λ g.
-            let some = positive (gap (drop at z)) g in
-            with_gap z at state before_end some
-              (stand_from left z (at + gap (drop at z)) state (omega (arith, gap_within (drop at z), length-drop at z)) (omega (arith, some)))
-        | false ↦ λ g.
-            let front = token_front state (drop at z) (positive (length (drop at z)) e) in
-            with_token z at state before_end (not_positive (gap (drop at z)) g)
-              (stand_from left z (at + (token state (drop at z)).len) (after state (token state (drop at z)).kind)
+      | false ↦ λ e. ended z at state inside (omega (arith, not_positive (length (drop at z)) e, length-drop at z))
+      | true ↦ λ e.
+          let before_end : at < length z = omega (arith, positive (length (drop at z)) e, length-drop at z) in
+          elim (nat_lt 0 (gap (drop at z))) as (λ v. nat_lt 0 (gap (drop at z)) ≡ v → StandFrom z at state (scan 0 at state (drop at z))) [
+            | true ↦ λ g.
+                let some = positive (gap (drop at z)) g in
+                with_gap z at state before_end some
+                (stand_from left z (at + gap (drop at z)) state (omega (arith, gap_within (drop at z), length-drop at z)) (omega (arith, some)))
+            | false ↦ λ g.
+                let front = token_front state (drop at z) (positive (length (drop at z)) e) in
+                with_token z at state before_end (not_positive (gap (drop at z)) g)
+                (stand_from left z (at + (token state (drop at z)).len) (after state (token state (drop at z)).kind)
                 (omega (arith, front.within, length-drop at z)) (omega (arith, front.some)))
-        ] refl
+          ] refl
     ] refl
 
 pub tokens_stand : (z : List ℕ) → StandIn z (tokens z)

@@ -21,6 +21,6 @@ same_test test xs ys is = both_ways test (bytes_eq xs ys) (λ yes. (bytes_eq-Dec
 pub text_if : (found : Option (List ℕ)) (bytes : List ℕ) → IfSome found (λ it. it ≡ bytes) → (IsSome found ↔ IsUtf8 bytes) → found ≡ if_text bytes
 text_if (Some it) bytes is spelled = let e : is_utf8 bytes ≡ true = is_utf8-from_IsUtf8 bytes (spelled.0 refl) in rw e (ap Some is)
 text_if None bytes is spelled = elim (is_utf8 bytes) as (λ v. is_utf8 bytes ≡ v → None ≡ (if v then Some bytes else None)) [
-    true ↦ λ e. absurd (let h = spelled.1 (IsUtf8-from_is_utf8 bytes e) in cc)
+  | true ↦ λ e. absurd (let h = spelled.1 (IsUtf8-from_is_utf8 bytes e) in cc)
   | false ↦ λ e. refl
-  ] refl
+] refl

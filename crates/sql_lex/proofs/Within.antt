@@ -1,7 +1,7 @@
 -- Each token has a byte, and none has more bytes than there are.
-use Rattle.std.proofs.Common.{◌≡◌, ℕ, zero, suc, ◌+◌, ◌-◌, ◌<◌, ◌≤◌, Bool, true, false, List, [], ◌∷◌, length, drop, take, refl, arith, nat_lt, nat_eq, length-drop, Option, Some, None}
-use Rattle.std.specs.Prelude.{◌&&◌, ◌||◌, ◌==◌, not, if◌then◌else◌, slice_index, IfSome}
-use Rattle.std.specs.List.{starts_with, prefix_len}
+use Rattle.std.proofs.Common.{◌≡◌, ℕ, suc, ◌+◌, ◌<◌, ◌≤◌, Bool, true, false, List, [], ◌∷◌, length, drop, take, refl, arith, nat_lt, nat_eq, length-drop, Option, Some, None}
+use Rattle.std.specs.Prelude.{◌&&◌, ◌||◌, ◌==◌, not, if◌then◌else◌, IfSome}
+use Rattle.std.specs.List.{starts_with}
 use Rattle.std.specs.Str.{is_utf8}
 use Rattle.std.proofs.lemmas.Bool.Decides.{nat_tests}
 use Rattle.std.proofs.lemmas.List.Sums.{prefix_len-le-length}
@@ -24,19 +24,19 @@ pub record IsFront (z : List ℕ) (p : Piece) : Type 0 where
   pub some : 1 ≤ p.len
   pub within : p.len ≤ length z
 
-run_within : (c : Class) (z : List ℕ) → run c z ≤ length z
+pub run_within : (c : Class) (z : List ℕ) → run c z ≤ length z
 run_within c z = prefix_len-le-length (is_in c) z
 
 -- a first byte of the class is one
-run_some : (c : Class) (b : ℕ) (z : List ℕ) → is_in c b ≡ true → 1 ≤ run c (b ∷ z)
+pub run_some : (c : Class) (b : ℕ) (z : List ℕ) → is_in c b ≡ true → 1 ≤ run c (b ∷ z)
 run_some c b z is = rw is (omega arith)
 
-both_true : (p q : Bool) → (p && q) ≡ true → (p ≡ true) × (q ≡ true)
+pub both_true : (p q : Bool) → (p && q) ≡ true → (p ≡ true) × (q ≡ true)
 both_true true q h = (refl, h)
 both_true false q h = absurd (cc)
 
 -- what holds of both branches holds of the choice
-choose : {A : Type 0} (P : A → Type 0) (b : Bool) (x y : A) → (b ≡ true → P x) → (b ≡ false → P y) → P (if b then x else y)
+pub choose : {A : Type 0} (P : A → Type 0) (b : Bool) (x y : A) → (b ≡ true → P x) → (b ≡ false → P y) → P (if b then x else y)
 choose P true x y f g = f refl
 choose P false x y f g = g refl
 
@@ -44,32 +44,32 @@ table_within : (z : List ℕ) → table_len z ≤ length z
 table_within [] = omega arith
 table_within (b ∷ z) =
     elim (not (is_in class.Table b) || begins_comment (b ∷ z)) as (λ v. (if v then 0 else suc (table_len z)) ≤ suc (length z)) [
-        true ↦ omega arith
+      | true ↦ omega arith
       | false ↦ omega (arith, table_within z)
     ]
 
-at_most_more : (end : Option ℕ) (m n : ℕ) → m ≤ n → IfSome end (λ len. len ≤ m) → IfSome end (λ len. len ≤ n)
-at_most_more None m n le h = tt
-at_most_more (Some len) m n le h = omega (arith, le, h)
+ends_between : (end : Option ℕ) (low high m n : ℕ) → low ≤ m → n ≤ high → IfSome end (λ len. (m ≤ len) × (len ≤ n)) → IfSome end (λ len. (low ≤ len) × (len ≤ high))
+ends_between None low high m n le ge h = tt
+ends_between (Some len) low high m n le ge h = (omega (arith, le, h.0), omega (arith, ge, h.1))
 
-closing_within : (q : ℕ) (second : Bool) (at : ℕ) (z : List ℕ) → IfSome (closing q second at z) (λ len. len ≤ at + length z)
+pub closing_within : (q : ℕ) (second : Bool) (at : ℕ) (z : List ℕ) → IfSome (closing q second at z) (λ len. (at + 1 ≤ len) × (len ≤ at + length z))
 closing_within q second at [] = tt
 closing_within q second at (b ∷ z) =
-    choose (λ end. IfSome end (λ len. len ≤ at + suc (length z))) (not second && (b == q && not (begins_with q z)))
-      (Some (at + 1)) (closing q (not second && b == q) (at + 1) z)
-      (λ _. omega arith)
-      (λ _. at_most_more (closing q (not second && b == q) (at + 1) z) (at + 1 + length z) (at + suc (length z)) (omega arith)
-        (closing_within q (not second && b == q) (at + 1) z))
+    choose (λ end. IfSome end (λ len. (at + 1 ≤ len) × (len ≤ at + suc (length z)))) (not second && (b == q && not (begins_with q z)))
+    (Some (at + 1)) (closing q (not second && b == q) (at + 1) z)
+    (λ _. (omega arith, omega arith))
+    (λ _. ends_between (closing q (not second && b == q) (at + 1) z) (at + 1) (at + suc (length z)) (at + 1 + 1) (at + 1 + length z) (omega arith) (omega arith)
+    (closing_within q (not second && b == q) (at + 1) z))
 
 fraction_within : (z : List ℕ) → fraction_len z ≤ length z
 fraction_within [] = omega arith
 fraction_within (b ∷ z) =
     elim (b == 46 && nat_lt 0 (run class.Digit z)) as (λ v. (if v then run class.Digit z + 1 else 0) ≤ suc (length z)) [
-        true ↦ omega (arith, run_within class.Digit z)
+      | true ↦ omega (arith, run_within class.Digit z)
       | false ↦ omega arith
     ]
 
-number_within : (z : List ℕ) → number_len z ≤ length z
+pub number_within : (z : List ℕ) → number_len z ≤ length z
 number_within z =
     omega (arith, run_within class.Digit z, fraction_within (drop (run class.Digit z) z), length-drop (run class.Digit z) z)
 
@@ -82,7 +82,7 @@ in_within : (list : List (List ℕ × Kind)) (b : ℕ) (z : List ℕ) → (sign_
 in_within [] b z = omega arith
 in_within (entry ∷ more) b z =
     elim (starts_with nat_eq (b ∷ z) entry.0) as (λ v. starts_with nat_eq (b ∷ z) entry.0 ≡ v → (if v then record { kind = entry.1; len = length entry.0 } else sign_in more (b ∷ z)).len ≤ suc (length z)) [
-        true ↦ λ e. stands_within entry.0 (b ∷ z) e
+      | true ↦ λ e. stands_within entry.0 (b ∷ z) e
       | false ↦ λ e. in_within more b z
     ] refl
 
@@ -91,23 +91,23 @@ unfolding sign signs
 sign_front b z = record { some = sign_lasts (b ∷ z); within = in_within signs b z }
 
 quoted_front : (q b : ℕ) (z : List ℕ) → IsFront (b ∷ z) (quoted q (b ∷ z))
-quoted_front q b z = elim (closing q false 0 z) as (λ v. IfSome v (λ len. len ≤ 0 + length z) → IsFront (b ∷ z) (closed q (b ∷ z) v)) [
-    None ↦ λ _. record { some = omega arith; within = omega arith }
-  | Some len ↦ λ h. record { some = omega arith; within = omega arith }
-  ] (closing_within q false 0 z)
+quoted_front q b z = elim (closing q false 0 z) as (λ v. IfSome v (λ len. (0 + 1 ≤ len) × (len ≤ 0 + length z)) → IsFront (b ∷ z) (closed q (b ∷ z) v)) [
+  | None ↦ λ _. record { some = omega arith; within = omega arith }
+  | Some len ↦ λ h. record { some = omega arith; within = omega (arith, h.1) }
+] (closing_within q false 0 z)
 
-leaves_room : (n m : ℕ) → (n + 2 == suc (suc m)) ≡ false → n ≤ m → n + 3 ≤ suc (suc m)
+pub leaves_room : (n m : ℕ) → (n + 2 == suc (suc m)) ≡ false → n ≤ m → n + 3 ≤ suc (suc m)
 leaves_room n m differs le = grind (arith, nat_tests)
 
-bytes_front : (z : List ℕ) → begins_bytes z ≡ true → IsFront z (bytes z)
+pub bytes_front : (z : List ℕ) → begins_bytes z ≡ true → IsFront z (bytes z)
 bytes_front [] is = absurd (cc)
 bytes_front (b ∷ []) is = absurd (let h : false ≡ true = (both_true (b == 88 || b == 120) false is).1 in cc)
 bytes_front (b ∷ c ∷ z) is =
     choose (IsFront (b ∷ c ∷ z)) (run class.Inner z + 2 == suc (suc (length z)))
-      (record { kind = k.Bad; len = suc (suc (length z)) })
-      (record { kind = bytes_kind (take (run class.Inner z + 3) (b ∷ c ∷ z)); len = run class.Inner z + 3 })
-      (λ _. record { some = omega arith; within = omega arith })
-      (λ e. record { some = omega arith; within = leaves_room (run class.Inner z) (length z) e (run_within class.Inner z) })
+    (record { kind = k.Bad; len = suc (suc (length z)) })
+    (record { kind = bytes_kind (take (run class.Inner z + 3) (b ∷ c ∷ z)); len = run class.Inner z + 3 })
+    (λ _. record { some = omega arith; within = omega arith })
+    (λ e. record { some = omega arith; within = leaves_room (run class.Inner z) (length z) e (run_within class.Inner z) })
 
 letter_goes_on : (b : ℕ) → is_in class.Letter b ≡ true → is_in class.Word b ≡ true
 letter_goes_on b is = grind (arith, nat_tests)
@@ -138,10 +138,10 @@ token_front state [] some = absurd (omega arith)
 token_front state (b ∷ z) some =
     let P : Piece → Type 0 = IsFront (b ∷ z) in
     choose P (begins_comment (b ∷ z)) (record { kind = k.Bad; len = run class.Line (b ∷ z) }) _
-      (λ e. record { some = run_some class.Line b z (dash_in_line b (both_true (b == 45) (begins_with 45 z) e).0); within = run_within class.Line (b ∷ z) })
-      (λ _. choose P (is_table_due state && nat_lt 0 (table_len (b ∷ z))) (table (b ∷ z)) (common (b ∷ z))
-        (λ e. record { some = above_zero (table_len (b ∷ z)) (both_true (is_table_due state) (nat_lt 0 (table_len (b ∷ z))) e).1; within = table_within (b ∷ z) })
-        (λ _. common_front b z))
+    (λ e. record { some = run_some class.Line b z (dash_in_line b (both_true (b == 45) (begins_with 45 z) e).0); within = run_within class.Line (b ∷ z) })
+    (λ _. choose P (is_table_due state && nat_lt 0 (table_len (b ∷ z))) (table (b ∷ z)) (common (b ∷ z))
+    (λ e. record { some = above_zero (table_len (b ∷ z)) (both_true (is_table_due state) (nat_lt 0 (table_len (b ∷ z))) e).1; within = table_within (b ∷ z) })
+    (λ _. common_front b z))
 
 comment_within : (z : List ℕ) → comment_len z ≤ length z
 comment_within z = choose (λ n. n ≤ length z) (is_utf8 (take (run class.Line z) z)) (run class.Line z) 0 (λ _. run_within class.Line z) (λ _. omega arith)
@@ -152,4 +152,4 @@ gap_within [] = omega arith
 gap_within (b ∷ z) =
     let P : ℕ → Type 0 = λ n. n ≤ length (b ∷ z) in
     choose P (is_in class.Blank b) (run class.Blank (b ∷ z)) _ (λ _. run_within class.Blank (b ∷ z))
-      (λ _. choose P (begins_comment (b ∷ z)) (comment_len (b ∷ z)) 0 (λ _. comment_within (b ∷ z)) (λ _. omega arith))
+    (λ _. choose P (begins_comment (b ∷ z)) (comment_len (b ∷ z)) 0 (λ _. comment_within (b ∷ z)) (λ _. omega arith))

@@ -1,8 +1,13 @@
 -- What tokens mean: names, texts, numbers and bytes.
-use Rattle.std.specs.Prelude.{ℕ, ◌+◌, ◌-◌, max, Bool, true, false, not, ◌&&◌, ◌||◌, ◌==◌, nat_lt, nat_le, if◌then◌else◌, List, [], ◌∷◌, ◌++◌, length, take, drop, Option, Some, None, is_some}
+use Rattle.std.specs.Prelude.{◌≡◌, ◌<◌, ◌^◌, IsSome, All, ℕ, ◌+◌, ◌-◌, max, Bool, true, false, ◌&&◌, ◌==◌, nat_lt, nat_le, if◌then◌else◌, List, [], ◌∷◌, length, take, drop, Option, Some, None}
 use Rattle.std.specs.Result.{result_ok}
 use Rattle.std.specs.Str.{is_utf8}
 use Rattle.hex.specs.Hex.{decode_of}
+use Rattle.sql_tree.specs.Kinds.{names}
+use Rattle.sql_tree.specs.declared.token.Kind.{Kind}
+use Rattle.sql_tree.specs.declared.token.Kind.TheVariants as k
+use Rattle.sql_tree.specs.declared.token.Token.{Token}
+use Rattle.sql_lex.specs.Tables.{is_table_name}
 use Rattle.sql_lex.specs.declared.bytes.Class.TheVariants as class
 use Rattle.sql_lex.specs.declared.content.Number.{Number}
 use Rattle.sql_lex.specs.Bytes.{run, are_in, begins_bytes}
@@ -77,3 +82,21 @@ precision z = max 1 (significant (take (run class.Digit z) z) + scale z)
 -- the number without its point, its precision and its scale, which is 0 for a whole
 abbrev pub number_of : List ℕ → Option Number
 number_of z = if is_number z then Some (record { unscaled = unscaled z; precision = precision z; scale = scale z }) else None
+
+-- ---- by kinds
+
+-- what bytes of a kind mean
+abbrev pub Means : Kind → List ℕ → Type 0
+Means k.Whole z = IsSome (number_of z) × (unscaled z < 2 ^ 63)
+Means k.LargeWhole z = IsSome (number_of z)
+Means k.Decimal z = IsSome (number_of z)
+Means k.Text z = IsSome (text_of z)
+Means k.TableText z = IsSome (text_of z)
+Means k.Bytes z = IsSome (bytes_of z)
+Means k.Table z = is_table_name z ≡ true
+Means k.TableChanges z = is_table_name z ≡ true
+Means kind z = names kind ≡ true → IsSome (name_of z)
+
+-- each token, taken alone, means what its kind says
+abbrev pub AreMeant : List ℕ → List Token → Type 0
+AreMeant z ts = All (λ t. Means t.kind (take (t.span.«end» - t.span.start) (drop t.span.start z))) ts

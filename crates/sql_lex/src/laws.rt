@@ -1,6 +1,6 @@
 // What tokens are to their bytes.
 ghost use Rattle.std.specs.Prelude.{◌≡◌, ℕ, List, false, length};
-ghost use Rattle.sql_lex.specs.Content.{doubled, halved};
+ghost use Rattle.sql_lex.specs.Content.{AreMeant, doubled, halved};
 ghost use Rattle.sql_lex.specs.Stand.{StandIn, AreParts};
 ghost use Rattle.sql_lex.specs.Tokens.{tokens};
 
@@ -13,6 +13,12 @@ pub fn tokens_stand()
 /// A law: each token has a byte at least, and ends within the bytes and before the next begins.
 pub fn spans_ascend()
     ensures { (bytes : List ℕ) → AreParts 0 (length bytes) (tokens bytes) }
+{}
+
+/// A law: the bytes of each token, taken alone, are a name, a text, a number, bytes or a table's name,
+/// as its kind says; the number of a token of the kind `Whole` is below 2^63.
+pub fn tokens_mean()
+    ensures { (bytes : List ℕ) → AreMeant bytes (tokens bytes) }
 {}
 
 /// A law: what is doubled in quotes is halved to itself.
