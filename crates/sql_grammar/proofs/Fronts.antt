@@ -127,9 +127,11 @@ pub expr_plain : (depth : ℕ) → Plain (g.expr depth)
 expr_plain depth = disjunction_plain depth (inside_plain depth)
 
 pub any_expr_plain : Plain g.any_expr
+unfolding g.any_expr
 any_expr_plain = record { local = any_local g.expr (λ n. (expr_plain n).local); cuts = any_cuts g.expr (λ n. (expr_plain n).cuts) }
 
 pub expression_plain : Plain g.expression
+unfolding g.expression
 expression_plain = limit_plain 1000 (expr_plain 64)
 
 -- ---- statements

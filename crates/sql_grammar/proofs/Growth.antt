@@ -170,12 +170,15 @@ inside_grows zero = never_grows (g.inside 1) an_expr
 inside_grows (suc depth) = disjunction_grows depth (inside_grows depth) (inside_plain (suc depth))
 
 expr_grows : (depth : ℕ) → Grows (g.expr depth) g.any_expr
+unfolding g.any_expr
 expr_grows depth = any_grows g.expr depth (disjunction_grows depth (inside_grows depth) (inside_plain (suc depth)))
 
 pub any_expr_grows : Grows g.any_expr g.any_expr
+unfolding g.any_expr
 any_expr_grows = all_grow g.expr expr_grows
 
 pub expression_grows : Grows g.expression g.any_expr
+unfolding g.expression
 expression_grows = limit_grows 1000 (expr_grows 64)
 
 -- ---- statements

@@ -179,6 +179,7 @@ pub expr_leads : (depth : ℕ) → Leads (g.expr depth) (r.run_expr depth) first
 expr_leads depth = disjunction_leads depth (inside_leads depth)
 
 pub expression_leads : Leads g.expression r.run_expression first_expr after_expr
+unfolding g.expression
 expression_leads = limit_leads 1000 (expr_leads 64)
 
 -- ---- statements

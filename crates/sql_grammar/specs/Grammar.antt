@@ -176,11 +176,11 @@ abbrev pub expr : ℕ → Lang Token Expr
 expr depth = disjunction depth (inside depth)
 
 -- the expressions of the grammar, with no limits
-abbrev pub any_expr : Lang Token Expr
+unfoldable pub any_expr : Lang Token Expr
 any_expr = any_of expr
 
 -- Those of no more than 1,000 tokens, and with no more than 64 brackets and CASEs open at once. What begins one has kept to this so far.
-abbrev pub expression : Lang Token Expr
+unfoldable pub expression : Lang Token Expr
 expression = at_most 1000 (expr 64)
 
 -- ---- statements, over the expressions that may stand in them

@@ -1,4 +1,10 @@
-//! The grammar of scripts, and what holds of it. No code that runs.
+//! The grammar of scripts, with a reader for each production, and what holds of it. No code that
+//! runs: the grammar stands in `specs/Grammar.antt`.
 #![tactic(auto)]
 
-pub mod laws;
+mod laws;
+
+pub use laws::{
+    beginnings_are_fronts_of_expressions, beginnings_are_fronts_of_scripts, beginnings_go_on,
+    fronts_begin, limits_only_refuse, places_are_first, places_are_one,
+};

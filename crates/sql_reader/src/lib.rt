@@ -1,9 +1,17 @@
-//! The reader of scripts: bytes to statements, and to expressions.
+//! The reader of scripts: bytes to statements, and to expressions, with the place at which a script
+//! first goes wrong.
 #![tactic(auto)]
 
 mod build;
 mod class;
 mod expr;
 mod fault;
+mod read;
 mod statement;
 mod tokens;
+
+pub use fault::ScriptFault;
+pub use read::{read_expr, read_script};
+
+#[cfg(test)]
+mod tests;
