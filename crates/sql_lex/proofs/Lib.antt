@@ -5,6 +5,7 @@ pub mod Meaning
 pub mod Quoting
 pub mod Scan
 pub mod SignLengths
+pub mod Spelling
 pub mod Standing
 pub mod Texts
 pub mod Within

@@ -96,17 +96,17 @@ word_wordy w = in_wordy (reserved ++ placed) w refl
 word_small : (b : ℕ) → is_in class.Word b ≡ true → b < 128
 word_small b is = grind (arith, nat_tests)
 
-run_ascii : (z : List ℕ) → IsAscii (take (run class.Word z) z)
+pub run_ascii : (z : List ℕ) → IsAscii (take (run class.Word z) z)
 run_ascii [] = IsAscii-nil
 run_ascii (b ∷ z) = choose (λ n. IsAscii (take n (b ∷ z))) (is_in class.Word b) (1 + run class.Word z) 0
     (λ e. let s : suc (run class.Word z) ≡ 1 + run class.Word z = omega arith in
     subst (λ n. IsAscii (take n (b ∷ z))) s (IsAscii-cons b (take (run class.Word z) z) (word_small b e) (run_ascii z)))
     (λ _. IsAscii-nil)
 
-if_some : (w : List ℕ) → IsUtf8 w → IsSome (if_text w)
+pub if_some : (w : List ℕ) → IsUtf8 w → IsSome (if_text w)
 if_some w text = let e : is_utf8 w ≡ true = is_utf8-from_IsUtf8 w text in rw e refl
 
-equal_self : (n : ℕ) → (n == n) ≡ true
+pub equal_self : (n : ℕ) → (n == n) ≡ true
 equal_self n = grind (arith, nat_tests)
 
 goes_on : (b : ℕ) → is_in class.Letter b ≡ true → is_in class.Word b ≡ true

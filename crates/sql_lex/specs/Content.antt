@@ -1,5 +1,5 @@
 -- What tokens mean: names, texts, numbers and bytes.
-use Rattle.std.specs.Prelude.{◌≡◌, ◌<◌, ◌^◌, IsSome, All, ℕ, ◌+◌, ◌-◌, max, Bool, true, false, ◌&&◌, ◌==◌, nat_lt, nat_le, if◌then◌else◌, List, [], ◌∷◌, length, take, drop, Option, Some, None}
+use Rattle.std.specs.Prelude.{◌++◌, ◌⊎◌, ◌≢◌, IsUtf8, ◌≡◌, ◌<◌, ◌^◌, IsSome, All, ℕ, ◌+◌, ◌-◌, max, Bool, true, false, ◌&&◌, ◌==◌, nat_lt, nat_le, if◌then◌else◌, List, [], ◌∷◌, length, take, drop, Option, Some, None}
 use Rattle.std.specs.Result.{result_ok}
 use Rattle.std.specs.Str.{is_utf8}
 use Rattle.hex.specs.Hex.{decode_of}
@@ -20,6 +20,9 @@ use Rattle.sql_lex.specs.Quotes.{closing, inside, hex_digits}
 abbrev pub doubled : ℕ → List ℕ → List ℕ
 doubled q [] = []
 doubled q (b ∷ content) = if b == q then q ∷ q ∷ doubled q content else b ∷ doubled q content
+
+abbrev pub in_quotes : ℕ → List ℕ → List ℕ
+in_quotes q content = q ∷ doubled q content ++ q ∷ []
 
 -- the content: of two quotes the second is left out. `second` says that a quote stands in front.
 abbrev pub halved : ℕ → Bool → List ℕ → List ℕ
@@ -82,6 +85,16 @@ precision z = max 1 (significant (take (run class.Digit z) z) + scale z)
 -- the number without its point, its precision and its scale, which is 0 for a whole
 abbrev pub number_of : List ℕ → Option Number
 number_of z = if is_number z then Some (record { unscaled = unscaled z; precision = precision z; scale = scale z }) else None
+
+-- ---- spellings
+
+-- a text in quotes, each quote in it twice
+abbrev pub SpellsText : List ℕ → List ℕ → Type 0
+SpellsText z text = (z ≡ in_quotes 39 text) × IsUtf8 text
+
+-- a word, or a name in backquotes that isn't empty
+abbrev pub SpellsName : List ℕ → List ℕ → Type 0
+SpellsName z name = ((is_word z ≡ true) × (z ≡ name)) ⊎ ((z ≡ in_quotes 96 name) × (name ≢ []) × IsUtf8 name)
 
 -- ---- by kinds
 
