@@ -1,0 +1,480 @@
+// Expressions of every form with their trees, and scripts, by hand; places of what is none.
+use crate::build::span_of;
+use crate::{ScriptFault, read_expr, read_script};
+use sql_tree::{Expr, Literal, Operator, Prefix, Span, Stmt, Truth, TypeName, WrittenType};
+use std::alloc::{AllocError, Global};
+use std::test::Fail;
+
+/// Expressions, and how `show` shows them: each form as its name, the text at its operator's place
+/// and its parts.
+const TREES: [(&[u8], &[u8]); 48] = [
+    // Literals.
+    (b"7", b"whole 7"),
+    (b"9223372036854775808", b"whole 9223372036854775808"),
+    (b"1.50", b"decimal 1.50"),
+    (b"'it''s'", b"text 'it''s'"),
+    (b"'t'", b"text 't'"),
+    (b"X'0a'", b"bytes X'0a'"),
+    (b"null", b"null null"),
+    (b"True", b"true True"),
+    (b"FALSE", b"false FALSE"),
+    (b"DATE '2024-01-01'", b"date DATE '2024-01-01'"),
+    (b"timestamp 'no'", b"timestamp timestamp 'no'"),
+    // Columns and calls. What isn't reserved is a name.
+    (b"a", b"column a"),
+    (b"`a b` . c", b"column `a b`.c"),
+    (b"date.timestamp", b"column date.timestamp"),
+    (b"files", b"column files"),
+    (b"f()", b"call f[]"),
+    (b"DATE(a, 1)", b"call DATE[column a;whole 1;]"),
+    (b"`if`(a, b, c)", b"call `if`[column a;column b;column c;]"),
+    // Brackets.
+    (b"(a)", b"group (a) [column a]"),
+    (b"((a))", b"group ((a)) [group (a) [column a]]"),
+    // Signs.
+    (b"- + a", b"- minus[+ plus[column a]]"),
+    (b"-a.b", b"- minus[column a.b]"),
+    (b"1 - -2", b"- minus[whole 1;- minus[whole 2]]"),
+    // Chains, from the left, by level.
+    (b"a * b % c DIV d", b"DIV divide[% remainder[* times[column a;column b];column c];column d]"),
+    (b"a + b * c", b"+ plus[column a;* times[column b;column c]]"),
+    (b"a - b + c", b"+ plus[- minus[column a;column b];column c]"),
+    (b"a || b + c || d", b"|| concat[|| concat[column a;+ plus[column b;column c]];column d]"),
+    // Comparisons.
+    (b"a = b", b"= equal[column a;column b]"),
+    (b"a <> b", b"<> not equal[column a;column b]"),
+    (b"a != b", b"!= not equal[column a;column b]"),
+    (b"a < b", b"< less[column a;column b]"),
+    (b"a <= b", b"<= at most[column a;column b]"),
+    (b"a > b", b"> greater[column a;column b]"),
+    (b"a >= b", b">= at least[column a;column b]"),
+    (b"a <=> b || c", b"<=> same[column a;|| concat[column b;column c]]"),
+    // Tests.
+    (b"a IS NULL", b"IS NULL null[column a]"),
+    (b"a is not true", b"is not true not true[column a]"),
+    (b"a IS FALSE", b"IS FALSE false[column a]"),
+    (b"a BETWEEN b AND c AND d", b"AND and[BETWEEN between[column a;column b;column c];column d]"),
+    (b"a NOT BETWEEN b AND c", b"NOT BETWEEN not between[column a;column b;column c]"),
+    (b"a IN (1)", b"IN in[column a;whole 1;]"),
+    (b"a NOT IN (1, b OR c)", b"NOT IN not in[column a;whole 1;OR or[column b;column c];]"),
+    // AND, OR and NOT: AND binds tighter.
+    (b"a OR b AND c", b"OR or[column a;AND and[column b;column c]]"),
+    (b"a AND b OR c", b"OR or[AND and[column a;column b];column c]"),
+    (b"NOT NOT a = b", b"NOT not[NOT not[= equal[column a;column b]]]"),
+    (b"NOT a AND b", b"AND and[NOT not[column a];column b]"),
+    // CASE and CAST.
+    (
+        b"CASE WHEN a THEN 1 WHEN b THEN 2 ELSE 3 END",
+        b"CASE case[column a:whole 1;column b:whole 2;else whole 3]",
+    ),
+    (
+        b"CAST(CASE WHEN a THEN b END AS DECIMAL(10,2))",
+        b"CAST cast[CASE case[column a:column b;];DECIMAL(10,2) 10 2]",
+    ),
+];
+
+/// Types by their texts, in CAST.
+const TYPES: [(&[u8], TypeName); 9] = [
+    (b"CAST(a AS boolean)", TypeName::Boolean),
+    (b"CAST(a AS TINYINT)", TypeName::TinyInt),
+    (b"CAST(a AS SMALLINT)", TypeName::SmallInt),
+    (b"CAST(a AS INT)", TypeName::Int),
+    (b"CAST(a AS BIGINT)", TypeName::BigInt),
+    (b"CAST(a AS STRING)", TypeName::String),
+    (b"CAST(a AS BINARY)", TypeName::Binary),
+    (b"CAST(a AS DATE)", TypeName::Date),
+    (b"CAST(a AS TIMESTAMP)", TypeName::Timestamp),
+];
+
+/// What is no expression, and where it goes wrong.
+const NO_EXPRESSIONS: [(&[u8], u64); 42] = [
+    (b"", 0),
+    (b" -- a", 5),
+    (b"a b", 2),
+    (b"a = b = c", 6),
+    (b"a < b <= c", 6),
+    (b"a IS NULL IS NULL", 10),
+    (b"a IS NOT 1", 9),
+    (b"a NOT", 5),
+    (b"a NOT = b", 6),
+    (b"a NOT NOT IN (1)", 6),
+    (b"NOT", 3),
+    (b"a BETWEEN b OR c", 12),
+    (b"a BETWEEN 1 AND 2 BETWEEN 3 AND 4", 18),
+    (b"a IN ()", 6),
+    (b"a IN (1,)", 8),
+    (b"a IN 1", 5),
+    (b"()", 1),
+    (b"(a", 2),
+    (b"(a, b)", 2),
+    (b"f(a,)", 4),
+    (b"f(", 2),
+    (b"a.b.c", 3),
+    (b"a.1", 2),
+    (b"a.b(c)", 3),
+    (b"a AND", 5),
+    (b"a OR OR b", 5),
+    (b"1 +", 3),
+    (b"* a", 0),
+    (b"SELECT", 0),
+    (b"a.select", 2),
+    (b"CASE ELSE a END", 5),
+    (b"CASE WHEN a END", 12),
+    (b"CASE WHEN a THEN b ELSE c WHEN d THEN e END", 26),
+    (b"CAST(a, INT)", 6),
+    (b"CAST(a AS TEXT)", 10),
+    (b"CAST(a AS DECIMAL)", 17),
+    (b"CAST(a AS DECIMAL(9223372036854775808,0))", 18),
+    (b"CAST(a AS INT(1))", 13),
+    // A date in backquotes is a name.
+    (b"`DATE` 'a'", 7),
+    // Where a bad token stands.
+    (b"a + ?", 4),
+    (b"a -- \xff\n+ b", 2),
+    (b"'a", 0),
+];
+
+/// Bad tokens, each behind `a = `.
+const BAD: [&[u8]; 12] = [
+    b"'a",
+    b"'\xff'",
+    b"`a",
+    b"``",
+    b"`\xff`",
+    b"X'0'",
+    b"X'0g'",
+    b"x'00",
+    b"100000000000000000000000000000000000000",
+    b"--\xff",
+    b"/",
+    b"\x00",
+];
+
+/// Scripts, and where each stops being one; the length, where it is one.
+const SCRIPTS: [(&[u8], u64); 24] = [
+    (b"", 0),
+    (b" -- nothing", 11),
+    (b"SHOW FILES t;", 13),
+    (b"show files t ; delete FROM SHOW; -- done", 40),
+    (b"SHOW FILES t", 12),
+    (b"SHOW FILES t;;", 13),
+    (b";", 0),
+    (b"SHOW FILES", 10),
+    (b"SHOW FILES ;", 11),
+    (b"SHOW FILES t u;", 13),
+    (b"SHOW FILES from--x\n;", 20),
+    (b"SHOW FILES .t;", 11),
+    (b"SHOW FILES `t`;", 11),
+    (b"SHOW FILES t--;", 15),
+    (b"SHOW FILESt;", 5),
+    (b"SHOW ROWS t;", 5),
+    (b"SELECT * FROM t;", 0),
+    (b"DELETE t;", 7),
+    (b"DELETE FROM t WHERE a;", 14),
+    (b"DELETE FROM X'00;", 13),
+    (b"DELETE FROM table_changes;", 26),
+    (b"SHOW FILES t; -- \xff", 14),
+    (b"SHOW FILES t; '", 14),
+    (b"SHOW FILES t; SHOW FILES u; x", 28),
+];
+
+fn push(bytes: &[u8], span: Span, out: &mut Vec<u8>) -> Result<(), AllocError> {
+    match bytes.get(span.start..span.end) {
+        Some(text) => out.extend_from_slice(text),
+        None => out.extend_from_slice(b"?"),
+    }
+}
+
+fn literal_name(literal: Literal) -> &'static [u8] {
+    match literal {
+        Literal::Null => b"null ",
+        Literal::True => b"true ",
+        Literal::False => b"false ",
+        Literal::Whole => b"whole ",
+        Literal::Decimal => b"decimal ",
+        Literal::Text => b"text ",
+        Literal::Bytes => b"bytes ",
+        Literal::Date(_) => b"date ",
+        Literal::Timestamp(_) => b"timestamp ",
+    }
+}
+
+fn operator_name(operator: Operator) -> &'static [u8] {
+    match operator {
+        Operator::Or => b" or[",
+        Operator::And => b" and[",
+        Operator::Equal => b" equal[",
+        Operator::NotEqual => b" not equal[",
+        Operator::Less => b" less[",
+        Operator::LessOrEqual => b" at most[",
+        Operator::Greater => b" greater[",
+        Operator::GreaterOrEqual => b" at least[",
+        Operator::SameAs => b" same[",
+        Operator::Concat => b" concat[",
+        Operator::Plus => b" plus[",
+        Operator::Minus => b" minus[",
+        Operator::Times => b" times[",
+        Operator::Remainder => b" remainder[",
+        Operator::Divide => b" divide[",
+    }
+}
+
+fn prefix_name(prefix: Prefix) -> &'static [u8] {
+    match prefix {
+        Prefix::Not => b" not[",
+        Prefix::Minus => b" minus[",
+        Prefix::Plus => b" plus[",
+    }
+}
+
+fn truth_name(not: bool, truth: Truth) -> &'static [u8] {
+    match (not, truth) {
+        (false, Truth::Null) => b" null[",
+        (false, Truth::True) => b" true[",
+        (false, Truth::False) => b" false[",
+        (true, Truth::Null) => b" not null[",
+        (true, Truth::True) => b" not true[",
+        (true, Truth::False) => b" not false[",
+    }
+}
+
+fn show_type(bytes: &[u8], written: WrittenType, out: &mut Vec<u8>) -> Result<(), AllocError> {
+    push(bytes, written.span, out)?;
+    if let TypeName::Decimal(precision, scale) = written.name {
+        out.extend_from_slice(b" ")?;
+        push(bytes, precision, out)?;
+        out.extend_from_slice(b" ")?;
+        push(bytes, scale, out)?;
+    }
+    Ok(())
+}
+
+#[cycle(show)]
+fn show_all(bytes: &[u8], exprs: &[Expr], out: &mut Vec<u8>) -> Result<(), AllocError> {
+    for expr in exprs {
+        show(bytes, expr, out)?;
+        out.extend_from_slice(b";")?;
+    }
+    Ok(())
+}
+
+#[cycle(show)]
+fn show_branches(bytes: &[u8], branches: &[(Expr, Expr)], out: &mut Vec<u8>) -> Result<(), AllocError> {
+    for (condition, value) in branches {
+        show(bytes, condition, out)?;
+        out.extend_from_slice(b":")?;
+        show(bytes, value, out)?;
+        out.extend_from_slice(b";")?;
+    }
+    Ok(())
+}
+
+#[cycle(show)]
+fn show_unary(bytes: &[u8], place: Span, name: &[u8], expr: &Expr, out: &mut Vec<u8>) -> Result<(), AllocError> {
+    push(bytes, place, out)?;
+    out.extend_from_slice(name)?;
+    show(bytes, expr, out)?;
+    out.extend_from_slice(b"]")
+}
+
+/// The expression as a text.
+#[cycle(show)]
+fn show(bytes: &[u8], expr: &Expr, out: &mut Vec<u8>) -> Result<(), AllocError> {
+    match expr {
+        Expr::Literal(span, literal) => {
+            out.extend_from_slice(literal_name(*literal))?;
+            push(bytes, *span, out)
+        }
+        Expr::Column(_, qualifier, name) => {
+            out.extend_from_slice(b"column ")?;
+            if let Some(qualifier) = qualifier {
+                push(bytes, *qualifier, out)?;
+                out.extend_from_slice(b".")?;
+            }
+            push(bytes, *name, out)
+        }
+        Expr::Group(span, inner) => {
+            out.extend_from_slice(b"group ")?;
+            show_unary(bytes, *span, b" [", inner.get(), out)
+        }
+        Expr::Unary(_, prefix, place, inner) => {
+            show_unary(bytes, *place, prefix_name(*prefix), inner.get(), out)
+        }
+        Expr::Binary(_, operator, place, left, right) => {
+            push(bytes, *place, out)?;
+            out.extend_from_slice(operator_name(*operator))?;
+            show(bytes, left.get(), out)?;
+            out.extend_from_slice(b";")?;
+            show(bytes, right.get(), out)?;
+            out.extend_from_slice(b"]")
+        }
+        Expr::Is(_, truth, not, place, inner) => {
+            show_unary(bytes, *place, truth_name(*not, *truth), inner.get(), out)
+        }
+        Expr::Between(_, not, place, operand, low, high) => {
+            push(bytes, *place, out)?;
+            out.extend_from_slice(if *not { b" not between[" } else { b" between[" })?;
+            show(bytes, operand.get(), out)?;
+            out.extend_from_slice(b";")?;
+            show(bytes, low.get(), out)?;
+            out.extend_from_slice(b";")?;
+            show(bytes, high.get(), out)?;
+            out.extend_from_slice(b"]")
+        }
+        Expr::In(_, not, place, operand, items) => {
+            push(bytes, *place, out)?;
+            out.extend_from_slice(if *not { b" not in[" } else { b" in[" })?;
+            show(bytes, operand.get(), out)?;
+            out.extend_from_slice(b";")?;
+            show_all(bytes, items.as_slice(), out)?;
+            out.extend_from_slice(b"]")
+        }
+        Expr::Case(_, place, branches, otherwise) => {
+            push(bytes, *place, out)?;
+            out.extend_from_slice(b" case[")?;
+            show_branches(bytes, branches.as_slice(), out)?;
+            if let Some(otherwise) = otherwise {
+                out.extend_from_slice(b"else ")?;
+                show(bytes, otherwise.get(), out)?;
+            }
+            out.extend_from_slice(b"]")
+        }
+        Expr::Cast(_, place, operand, written) => {
+            push(bytes, *place, out)?;
+            out.extend_from_slice(b" cast[")?;
+            show(bytes, operand.get(), out)?;
+            out.extend_from_slice(b";")?;
+            show_type(bytes, *written, out)?;
+            out.extend_from_slice(b"]")
+        }
+        Expr::Call(_, name, arguments) => {
+            out.extend_from_slice(b"call ")?;
+            push(bytes, *name, out)?;
+            out.extend_from_slice(b"[")?;
+            show_all(bytes, arguments.as_slice(), out)?;
+            out.extend_from_slice(b"]")
+        }
+    }
+}
+
+/// Where the bytes go wrong as an expression; their length, where they are one.
+fn expr_place(alloc: Global, bytes: &[u8]) -> Option<u64> {
+    match read_expr(alloc, bytes) {
+        Ok(_) => Some(bytes.len() as u64),
+        Err(ScriptFault::BadScript { at }) => Some(at),
+        Err(ScriptFault::Memory) => None,
+    }
+}
+
+/// The same, as a script.
+fn script_place(alloc: Global, bytes: &[u8]) -> Option<u64> {
+    match read_script(alloc, bytes) {
+        Ok(_) => Some(bytes.len() as u64),
+        Err(ScriptFault::BadScript { at }) => Some(at),
+        Err(ScriptFault::Memory) => None,
+    }
+}
+
+/// Adds the part as often.
+fn repeat(out: &mut Vec<u8>, part: &[u8], count: usize) -> Result<(), AllocError> {
+    for _ in 0..count {
+        out.extend_from_slice(part)?;
+    }
+    Ok(())
+}
+
+#[test]
+fn expressions_have_their_trees(rt: HostRuntime) -> Result<(), Fail> {
+    let alloc = rt.alloc();
+    for (bytes, tree) in TREES {
+        let mut shown = Vec::new(alloc);
+        if let Ok(expr) = read_expr(alloc, bytes) {
+            assert_eq!(rt; span_of(&expr), Span { start: 0, end: bytes.len() });
+            show(bytes, &expr, &mut shown)?;
+        }
+        assert_eq!(rt; shown.as_slice(), tree);
+    }
+    for (bytes, wanted) in TYPES {
+        let mut found = None;
+        if let Ok(Expr::Cast(_, _, _, written)) = read_expr(alloc, bytes) {
+            found = Some(written.name);
+        }
+        assert_eq!(rt; found, Some(wanted));
+    }
+    Ok(())
+}
+
+#[test]
+fn faults_have_their_places(rt: HostRuntime) -> Result<(), Fail> {
+    let alloc = rt.alloc();
+    for (bytes, place) in NO_EXPRESSIONS {
+        assert_eq!(rt; expr_place(alloc, bytes), Some(place));
+    }
+    for token in BAD {
+        let mut bytes = Vec::from_slice(alloc, b"a = ")?;
+        bytes.extend_from_slice(token)?;
+        assert_eq!(rt; expr_place(alloc, bytes.as_slice()), Some(4));
+    }
+    for (bytes, place) in SCRIPTS {
+        assert_eq!(rt; script_place(alloc, bytes), Some(place));
+    }
+    Ok(())
+}
+
+#[test]
+fn limits_are_exact(rt: HostRuntime) -> Result<(), Fail> {
+    let alloc = rt.alloc();
+    // 1,000 tokens, and one more.
+    let mut nots = Vec::new(alloc);
+    repeat(&mut nots, b"NOT ", 999)?;
+    nots.extend_from_slice(b"a")?;
+    assert_eq!(rt; expr_place(alloc, nots.as_slice()), Some(3997));
+    nots.extend_from_slice(b" + 1")?;
+    assert_eq!(rt; expr_place(alloc, nots.as_slice()), Some(3998));
+    let mut sums = Vec::from_slice(alloc, b"1")?;
+    repeat(&mut sums, b" + 1", 500)?;
+    assert_eq!(rt; expr_place(alloc, sums.as_slice()), Some(2000));
+    // 64 that are open, and one more of each kind.
+    let ends: [(&[u8], u64); 8] = [
+        (b"a", 64),
+        (b"(a", 64),
+        (b"f(a", 65),
+        (b"f()", 65),
+        (b"CASE WHEN a", 64),
+        (b"a IN (1", 69),
+        (b"CAST(a", 68),
+        (b"a.b", 67),
+    ];
+    for (end, place) in ends {
+        let mut bytes = Vec::new(alloc);
+        repeat(&mut bytes, b"(", 64)?;
+        bytes.extend_from_slice(end)?;
+        let wanted = if end.len() == 1 { 65 } else { place };
+        assert_eq!(rt; expr_place(alloc, bytes.as_slice()), Some(wanted));
+    }
+    let mut cases = Vec::new(alloc);
+    repeat(&mut cases, b"CASE WHEN ", 63)?;
+    cases.extend_from_slice(b"CAST(a AS DECIMAL(")?;
+    assert_eq!(rt; expr_place(alloc, cases.as_slice()), Some(647));
+    Ok(())
+}
+
+#[test]
+fn long_scripts_are_read(rt: HostRuntime) -> Result<(), Fail> {
+    let alloc = rt.alloc();
+    let mut script = Vec::new(alloc);
+    repeat(&mut script, b"SHOW FILES t;DELETE FROM t;\n", 37449)?;
+    assert_eq!(rt; script.len(), 1_048_572);
+    match read_script(alloc, script.as_slice()) {
+        Ok(statements) => {
+            assert_eq!(rt; statements.len(), 74898);
+            let second = match statements.get(1) {
+                Some(Stmt::Delete { table }) => Some(table.start),
+                _ => None,
+            };
+            assert_eq!(rt; second, Some(25));
+        }
+        Err(_) => assert!(rt; false, "no script"),
+    }
+    Ok(())
+}
