@@ -1,6 +1,7 @@
 pub mod Digits
 pub mod Fronts
 pub mod Halves
+pub mod Longest
 pub mod Meaning
 pub mod Quoting
 pub mod Scan

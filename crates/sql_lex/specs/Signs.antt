@@ -1,5 +1,5 @@
 -- Operators and other signs.
-use Rattle.std.specs.Prelude.{ℕ, nat_eq, if◌then◌else◌, List, [], ◌∷◌, length, codes}
+use Rattle.std.specs.Prelude.{◌≡◌, ◌≤◌, true, ℕ, nat_eq, if◌then◌else◌, List, [], ◌∷◌, length, codes}
 use Rattle.std.specs.List.{starts_with}
 use Rattle.sql_tree.specs.declared.token.Kind.{Kind}
 use Rattle.sql_tree.specs.declared.token.Kind.TheVariants as k
@@ -23,3 +23,7 @@ signs =
 -- the longest sign at the front
 unfoldable pub sign : List ℕ → Piece
 sign z = sign_in signs z
+
+-- a sign of a list that stands at the front has at most so many bytes
+abbrev pub IsLongest : List ℕ → ℕ → (List ℕ × Kind) → Type 0
+IsLongest z len entry = starts_with nat_eq z entry.0 ≡ true → length entry.0 ≤ len

@@ -1,6 +1,7 @@
 // What tokens are to their bytes.
-ghost use Rattle.std.specs.Prelude.{◌≡◌, ℕ, List, false, length};
-ghost use Rattle.sql_lex.specs.Content.{AreMeant, doubled, halved};
+ghost use Rattle.std.specs.Prelude.{◌≡◌, ℕ, List, length, All};
+ghost use Rattle.sql_lex.specs.Content.{AreMeant, SpellsName, SpellsText, name_of, text_of};
+ghost use Rattle.sql_lex.specs.Signs.{IsLongest, sign, signs};
 ghost use Rattle.sql_lex.specs.Stand.{StandIn, AreParts};
 ghost use Rattle.sql_lex.specs.Tokens.{tokens};
 
@@ -21,7 +22,21 @@ pub fn tokens_mean()
     ensures { (bytes : List ℕ) → AreMeant bytes (tokens bytes) }
 {}
 
-/// A law: what is doubled in quotes is halved to itself.
-pub fn quotes_again()
-    ensures { (quote : ℕ) (content : List ℕ) → halved quote false (doubled quote content) ≡ content }
+/// A law: the sign that is read is the longest that stands there.
+pub fn signs_are_longest()
+    ensures { (bytes : List ℕ) → All (IsLongest bytes (sign bytes).len) signs }
+{}
+
+/// A law: the name that is read of bytes is the one that they spell, and bytes that spell a name are
+/// read as it.
+pub fn names_spelled()
+    ensures spelled { (bytes name : List ℕ) → name_of bytes ≡ Some name → SpellsName bytes name }
+    ensures again { (bytes name : List ℕ) → SpellsName bytes name → name_of bytes ≡ Some name }
+{}
+
+/// A law: the text that is read of bytes is the one that they spell in quotes, and bytes that spell a
+/// text are read as it.
+pub fn texts_spelled()
+    ensures spelled { (bytes text : List ℕ) → text_of bytes ≡ Some text → SpellsText bytes text }
+    ensures again { (bytes text : List ℕ) → SpellsText bytes text → text_of bytes ≡ Some text }
 {}

@@ -12,7 +12,9 @@ mod tables;
 mod words;
 
 pub use content::{Number, bytes_of, name_of, number_of, text_of};
-pub use laws::{quotes_again, spans_ascend, tokens_mean, tokens_stand};
+pub use laws::{
+    names_spelled, signs_are_longest, spans_ascend, texts_spelled, tokens_mean, tokens_stand,
+};
 pub use lexer::read_tokens_of;
 
 #[cfg(test)]
