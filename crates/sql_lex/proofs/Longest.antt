@@ -1,12 +1,11 @@
 -- The sign that is read is the longest that stands there.
-use Rattle.std.proofs.Common.{◌≡◌, ◌∙◌, ℕ, suc, ◌<◌, ◌≤◌, Bool, true, false, List, [], ◌∷◌, length, refl, sym, arith, nat_lt, nat_eq, inl, inr}
+use Rattle.std.proofs.Common.{◌≡◌, ◌∙◌, ℕ, ◌<◌, ◌≤◌, Bool, true, false, List, [], ◌∷◌, length, refl, sym, arith, nat_lt, nat_eq, inl, inr}
 use Rattle.std.specs.Prelude.{◌&&◌, not, if◌then◌else◌}
 use Rattle.std.specs.List.{All, starts_with}
 use Rattle.std.proofs.lemmas.Bool.{cases_lt}
 use Rattle.std.proofs.lemmas.Bool.Decides.{nat_tests}
 use Rattle.std.proofs.lemmas.List.Elements.{All-cons, All-nil}
 use Rattle.sql_tree.specs.declared.token.Kind.{Kind}
-use Rattle.sql_lex.specs.declared.bytes.Piece.{Piece}
 use Rattle.sql_lex.specs.Signs.{IsLongest, sign_in, signs, sign}
 use Rattle.sql_lex.proofs.Fronts.{is_equal}
 use Rattle.sql_lex.proofs.Within.{both_true}
@@ -48,12 +47,12 @@ none_behind z s [] hs h = All-nil (IsLongest z (length s))
 none_behind z s (entry ∷ more) hs h =
     let both = both_true (not (nat_lt (length s) (length entry.0) && starts_with nat_eq entry.0 s)) (none_longer s more) h in
     All-cons (IsLongest z (length s)) entry more
-      (λ stands. elim (cases_lt (length s) (length entry.0)) [
-          inl less ↦ absurd (refuted (nat_lt (length s) (length entry.0)) (starts_with nat_eq entry.0 s) both.0 (above (length s) (length entry.0) less)
-            (front_of_front z s entry.0 hs stands (omega arith)))
-        | inr not_less ↦ not_less
-        ])
-      (none_behind z s more hs both.1)
+    (λ stands. elim (cases_lt (length s) (length entry.0)) [
+      | inl less ↦ absurd (refuted (nat_lt (length s) (length entry.0)) (starts_with nat_eq entry.0 s) both.0 (above (length s) (length entry.0) less)
+          (front_of_front z s entry.0 hs stands (omega arith)))
+      | inr not_less ↦ not_less
+    ])
+    (none_behind z s more hs both.1)
 
 longest_in : (list : List (List ℕ × Kind)) (z : List ℕ) → in_order list ≡ true → All (IsLongest z (sign_in list z).len) list
 unfolding in_order
@@ -61,10 +60,10 @@ longest_in [] z h = All-nil (IsLongest z 1)
 longest_in (entry ∷ more) z h =
     let both = both_true (none_longer entry.0 more) (in_order more) h in
     elim (starts_with nat_eq z entry.0) as (λ v. starts_with nat_eq z entry.0 ≡ v
-        → All (IsLongest z (if v then record { kind = entry.1; len = length entry.0 } else sign_in more z).len) (entry ∷ more)) [
-      true ↦ λ e. All-cons (IsLongest z (length entry.0)) entry more (λ _. omega arith) (none_behind z entry.0 more e both.0)
-    | false ↦ λ e. All-cons (IsLongest z (sign_in more z).len) entry more
-        (λ stands. absurd (let g : false ≡ true = sym e ∙ stands in cc)) (longest_in more z both.1)
+    → All (IsLongest z (if v then record { kind = entry.1; len = length entry.0 } else sign_in more z).len) (entry ∷ more)) [
+      | true ↦ λ e. All-cons (IsLongest z (length entry.0)) entry more (λ _. omega arith) (none_behind z entry.0 more e both.0)
+      | false ↦ λ e. All-cons (IsLongest z (sign_in more z).len) entry more
+          (λ stands. absurd (let g : false ≡ true = sym e ∙ stands in cc)) (longest_in more z both.1)
     ] refl
 
 pub signs_are_longest : (z : List ℕ) → All (IsLongest z (sign z).len) signs

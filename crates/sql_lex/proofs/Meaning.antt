@@ -364,7 +364,7 @@ one_token z state t part e =
 
 meant : (z : List ℕ) (at : ℕ) (state : Before) (ts : List Token) → StandFrom z at state ts → AreMeant z ts
 meant z at state [] h = All-nil (λ (t : Token). Means t.kind (take (t.span.«end» - t.span.start) (drop t.span.start z)))
-meant z at state (t ∷ ts) h = All-cons (λ (t : Token). Means t.kind (take (t.span.«end» - t.span.start) (drop t.span.start z))) t ts (one_token z state t h.2 h.3) (meant z t.span.«end» (after state t.kind) ts h.4)
+meant z at state (t ∷ ts) h = All-cons (λ (t : Token). Means t.kind (take (t.span.«end» - t.span.start) (drop t.span.start z))) t ts (one_token z state t h.2 h.4) (meant z t.span.«end» (after state t.kind) ts h.5)
 
 pub tokens_mean : (z : List ℕ) → AreMeant z (tokens z)
 unfolding StandIn

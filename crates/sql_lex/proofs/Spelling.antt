@@ -1,14 +1,14 @@
 -- Quoted texts are read as they are spelled.
-use Rattle.std.proofs.Common.{◌≡◌, ◌∙◌, ℕ, zero, suc, ◌+◌, ◌-◌, ◌<◌, ◌≤◌, Bool, true, false, List, [], ◌∷◌, ◌++◌, length, take, drop, refl, ap, sym, subst, arith, Option, Some, None, length-append, nat_lt}
-use Rattle.std.specs.Prelude.{◌&&◌, ◌==◌, not, if◌then◌else◌, IsUtf8, IsSome}
+use Rattle.std.proofs.Common.{◌≡◌, ◌∙◌, ℕ, suc, ◌+◌, ◌-◌, ◌<◌, ◌≤◌, true, false, List, [], ◌∷◌, ◌++◌, length, take, refl, ap, sym, subst, arith, Option, Some, None, length-append, nat_lt}
+use Rattle.std.specs.Prelude.{◌&&◌, ◌==◌, not, if◌then◌else◌, IsUtf8}
 use Rattle.std.proofs.Common.{inl, inr}
-use Rattle.std.specs.Prelude.{◌≢◌, ◌⊎◌}
+use Rattle.std.specs.Prelude.{◌≢◌}
 use Rattle.std.specs.Str.{IsAscii, is_utf8}
 use Rattle.std.proofs.Math.Seq.{take-append_seam, take-length}
 use Rattle.std.proofs.lemmas.Bool.Decides.{nat_tests}
 use Rattle.std.proofs.lemmas.Str.{IsUtf8-from_is_utf8, is_utf8-from_IsUtf8, IsUtf8-from_ascii}
 use Rattle.sql_lex.specs.declared.bytes.Class.TheVariants as class
-use Rattle.sql_lex.specs.Bytes.{is_in, run, are_in, begins_with}
+use Rattle.sql_lex.specs.Bytes.{is_in, run, are_in}
 use Rattle.sql_lex.specs.Content.{SpellsName, SpellsText, doubled, halved, in_quotes, is_quoted, is_word, ends_at, if_text, name_of, text_of}
 use Rattle.sql_lex.specs.Quotes.{closing, inside}
 use Rattle.sql_lex.proofs.Fronts.{is_equal}
@@ -41,9 +41,9 @@ too_soon m n h = let e : m + 1 ≡ m + suc (suc n) = cc in omega (arith, e)
 
 last_spelled : (q at b : ℕ) → closing q false at (b ∷ []) ≡ Some (at + 1) → IsSpelled q (b ∷ [])
 last_spelled q at b h = elim (b == q) as (λ v. (b == q) ≡ v → (if v && not false then Some (at + 1) else closing q v (at + 1) []) ≡ Some (at + 1) → b ∷ [] ≡ q ∷ []) [
-    true ↦ λ e _. ap (λ c. c ∷ []) (is_equal b q e)
+  | true ↦ λ e _. ap (λ c. c ∷ []) (is_equal b q e)
   | false ↦ λ e g. absurd (nowhere q (at + 1) (at + 1) g)
-  ] refl h
+] refl h
 
 -- a byte that is no quote
 plain_spelled : (q b c : ℕ) (z : List ℕ) → (b == q) ≡ false → IsSpelled q (c ∷ z) → IsSpelled q (b ∷ c ∷ z)
@@ -58,32 +58,32 @@ spelled : (q at : ℕ) (z : List ℕ) → closing q false at z ≡ Some (at + le
 spelled q at [] h = absurd (nowhere q at (at + 0) h)
 spelled q at (b ∷ []) h = last_spelled q at b h
 spelled q at (b ∷ c ∷ []) h = elim (b == q) as (λ v. (b == q) ≡ v → (if v && not (c == q) then Some (at + 1) else closing q v (at + 1) (c ∷ [])) ≡ Some (at + 2) → IsSpelled q (b ∷ c ∷ [])) [
-    true ↦ λ e g. elim (c == q) as (λ w. (if not w then Some (at + 1) else closing q false (at + 1 + 1) []) ≡ Some (at + 2) → IsSpelled q (b ∷ c ∷ [])) [
-        true ↦ λ g. absurd (nowhere q (at + 1 + 1) (at + 2) g)
-      | false ↦ λ g. absurd (too_soon at 0 g)
-      ] g
+  | true ↦ λ e g. elim (c == q) as (λ w. (if not w then Some (at + 1) else closing q false (at + 1 + 1) []) ≡ Some (at + 2) → IsSpelled q (b ∷ c ∷ [])) [
+    | true ↦ λ g. absurd (nowhere q (at + 1 + 1) (at + 2) g)
+    | false ↦ λ g. absurd (too_soon at 0 g)
+  ] g
   | false ↦ λ e g. let k : Some (at + 2) ≡ Some (at + 1 + 1) = ap Some (omega arith) in plain_spelled q b c [] e (spelled q (at + 1) (c ∷ []) (g ∙ k))
-  ] refl h
+] refl h
 spelled q at (b ∷ c ∷ d ∷ z) h =
     let n = length z in
     elim (b == q) as (λ v. (b == q) ≡ v → (if v && not (c == q) then Some (at + 1) else closing q v (at + 1) (c ∷ d ∷ z)) ≡ Some (at + suc (suc (suc n))) → IsSpelled q (b ∷ c ∷ d ∷ z)) [
-        true ↦ λ e g. elim (c == q) as (λ w. (c == q) ≡ w → (if not w then Some (at + 1) else closing q false (at + 1 + 1) (d ∷ z)) ≡ Some (at + suc (suc (suc n))) → IsSpelled q (b ∷ c ∷ d ∷ z)) [
-            true ↦ λ f g. let k : Some (at + suc (suc (suc n))) ≡ Some (at + 1 + 1 + suc n) = ap Some (omega arith) in
-              pair_spelled q b c d z e f (spelled q (at + 1 + 1) (d ∷ z) (g ∙ k))
-          | false ↦ λ f g. absurd (too_soon at (suc n) g)
-          ] refl g
+      | true ↦ λ e g. elim (c == q) as (λ w. (c == q) ≡ w → (if not w then Some (at + 1) else closing q false (at + 1 + 1) (d ∷ z)) ≡ Some (at + suc (suc (suc n))) → IsSpelled q (b ∷ c ∷ d ∷ z)) [
+        | true ↦ λ f g. let k : Some (at + suc (suc (suc n))) ≡ Some (at + 1 + 1 + suc n) = ap Some (omega arith) in
+            pair_spelled q b c d z e f (spelled q (at + 1 + 1) (d ∷ z) (g ∙ k))
+        | false ↦ λ f g. absurd (too_soon at (suc n) g)
+      ] refl g
       | false ↦ λ e g. let k : Some (at + suc (suc (suc n))) ≡ Some (at + 1 + suc (suc n)) = ap Some (omega arith) in
           plain_spelled q b c (d ∷ z) e (spelled q (at + 1) (c ∷ d ∷ z) (g ∙ k))
-      ] refl h
+    ] refl h
 
 -- what is doubled in quotes ends at its last byte
 closing_again : (q at : ℕ) (c : List ℕ) → closing q false at (doubled q c ++ q ∷ []) ≡ Some (at + length (doubled q c ++ q ∷ []))
 closing_again q at [] = rw (equal_self q) refl
 closing_again q at (b ∷ c) = elim (b == q) as (λ v. (b == q) ≡ v
-      → closing q false at ((if v then q ∷ q ∷ doubled q c else b ∷ doubled q c) ++ q ∷ []) ≡ Some (at + length ((if v then q ∷ q ∷ doubled q c else b ∷ doubled q c) ++ q ∷ []))) [
-    true ↦ λ e. rw (equal_self q) (closing_again q (at + 1 + 1) c ∙ ap Some (omega arith))
-  | false ↦ λ e. rw e (closing_again q (at + 1) c ∙ ap Some (omega arith))
-  ] refl
+    → closing q false at ((if v then q ∷ q ∷ doubled q c else b ∷ doubled q c) ++ q ∷ []) ≡ Some (at + length ((if v then q ∷ q ∷ doubled q c else b ∷ doubled q c) ++ q ∷ []))) [
+      | true ↦ λ e. rw (equal_self q) (closing_again q (at + 1 + 1) c ∙ ap Some (omega arith))
+      | false ↦ λ e. rw e (closing_again q (at + 1) c ∙ ap Some (omega arith))
+    ] refl
 
 inside_again : (q : ℕ) (d : List ℕ) → inside (q ∷ d ++ q ∷ []) ≡ d
 inside_again q d =
@@ -113,9 +113,9 @@ quoted_spelled q (b ∷ z) h =
 
 some_text : (w c : List ℕ) → if_text w ≡ Some c → (w ≡ c) × IsUtf8 w
 some_text w c h = elim (is_utf8 w) as (λ v. is_utf8 w ≡ v → (if v then Some w else None) ≡ Some c → (w ≡ c) × IsUtf8 w) [
-    true ↦ λ e g. (cc g, IsUtf8-from_is_utf8 w e)
+  | true ↦ λ e g. (cc g, IsUtf8-from_is_utf8 w e)
   | false ↦ λ e g. absurd (cc g)
-  ] refl h
+] refl h
 
 text_again : (c : List ℕ) → IsUtf8 c → if_text c ≡ Some c
 text_again c text = let e : is_utf8 c ≡ true = is_utf8-from_IsUtf8 c text in rw e refl
@@ -127,9 +127,9 @@ from_quotes q z c quoted h =
 
 pub texts_spelled : (z text : List ℕ) → text_of z ≡ Some text → SpellsText z text
 texts_spelled z text h = elim (is_quoted 39 z) as (λ v. is_quoted 39 z ≡ v → (if v then if_text (halved 39 false (inside z)) else None) ≡ Some text → SpellsText z text) [
-    true ↦ λ e g. from_quotes 39 z text e g
+  | true ↦ λ e g. from_quotes 39 z text e g
   | false ↦ λ e g. absurd (cc g)
-  ] refl h
+] refl h
 
 pub texts_again : (z text : List ℕ) → SpellsText z text → text_of z ≡ Some text
 texts_again z text h =
@@ -143,9 +143,9 @@ no_backquote b is = grind (arith, nat_tests)
 word_unquoted : (z : List ℕ) → is_word z ≡ true → is_quoted 96 z ≡ false
 word_unquoted [] h = refl
 word_unquoted (b ∷ z) h = elim (is_in class.Word b) as (λ v. is_in class.Word b ≡ v → ((if v then 1 + run class.Word z else 0) == suc (length z)) ≡ true → is_quoted 96 (b ∷ z) ≡ false) [
-    true ↦ λ e _. rw (no_backquote b e) refl
+  | true ↦ λ e _. rw (no_backquote b e) refl
   | false ↦ λ e g. absurd (let f : 0 ≡ suc (length z) = is_equal 0 (suc (length z)) g in omega (arith, f))
-  ] refl (both_true (nat_lt 0 (suc (length z))) (run class.Word (b ∷ z) == suc (length z)) h).1
+] refl (both_true (nat_lt 0 (suc (length z))) (run class.Word (b ∷ z) == suc (length z)) h).1
 
 word_text : (z : List ℕ) → is_word z ≡ true → IsUtf8 z
 word_text z h =
@@ -169,18 +169,18 @@ above_two n h = grind (arith, nat_tests)
 
 pub names_spelled : (z name : List ℕ) → name_of z ≡ Some name → SpellsName z name
 names_spelled z name h = elim (is_quoted 96 z) as (λ v. is_quoted 96 z ≡ v
-      → (if v then (if nat_lt 2 (length z) then if_text (halved 96 false (inside z)) else None) else (if is_word z then if_text z else None)) ≡ Some name → SpellsName z name) [
-    true ↦ λ e g. elim (nat_lt 2 (length z)) as (λ v. nat_lt 2 (length z) ≡ v → (if v then if_text (halved 96 false (inside z)) else None) ≡ Some name → SpellsName z name) [
-        true ↦ λ f g.
-          let it = from_quotes 96 z name e g in
-          inr (it.0, (λ n. let small = empty_inside 96 z (it.0 ∙ ap (in_quotes 96) n) in let no_one : true ≡ false = sym f ∙ small in cc), it.1)
-      | false ↦ λ f g. absurd (cc g)
+    → (if v then (if nat_lt 2 (length z) then if_text (halved 96 false (inside z)) else None) else (if is_word z then if_text z else None)) ≡ Some name → SpellsName z name) [
+      | true ↦ λ e g. elim (nat_lt 2 (length z)) as (λ v. nat_lt 2 (length z) ≡ v → (if v then if_text (halved 96 false (inside z)) else None) ≡ Some name → SpellsName z name) [
+        | true ↦ λ f g.
+            let it = from_quotes 96 z name e g in
+            inr (it.0, (λ n. let small = empty_inside 96 z (it.0 ∙ ap (in_quotes 96) n) in let no_one : true ≡ false = sym f ∙ small in cc), it.1)
+        | false ↦ λ f g. absurd (cc g)
       ] refl g
-  | false ↦ λ e g. elim (is_word z) as (λ v. is_word z ≡ v → (if v then if_text z else None) ≡ Some name → SpellsName z name) [
-        true ↦ λ f g. inl (f, (some_text z name g).0)
-      | false ↦ λ f g. absurd (cc g)
+      | false ↦ λ e g. elim (is_word z) as (λ v. is_word z ≡ v → (if v then if_text z else None) ≡ Some name → SpellsName z name) [
+        | true ↦ λ f g. inl (f, (some_text z name g).0)
+        | false ↦ λ f g. absurd (cc g)
       ] refl g
-  ] refl h
+    ] refl h
 
 pub names_again : (z name : List ℕ) → SpellsName z name → name_of z ≡ Some name
 names_again z name (inl h) = rw (word_unquoted z h.0, h.0) (text_again z (word_text z h.0) ∙ ap Some h.1)

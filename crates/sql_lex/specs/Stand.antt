@@ -21,11 +21,12 @@ abbrev pub AreParts : ℕ → ℕ → List Token → Type 0
 AreParts at size [] = Unit {0}
 AreParts at size (t ∷ ts) = (at ≤ t.span.start) × IsPart size t.span × AreParts t.span.«end» size ts
 
--- from a place on: white space and comments, then the token that stands there, and so on to the end
+-- from a place on: white space and comments, then the token that stands where there are none, and so on
+-- to the end
 abbrev pub StandFrom : List ℕ → ℕ → Before → List Token → Type 0
 StandFrom z at state [] = IsBlank z at (length z)
 StandFrom z at state (t ∷ ts) =
-    (at ≤ t.span.start) × IsBlank z at t.span.start × IsPart (length z) t.span
+    (at ≤ t.span.start) × IsBlank z at t.span.start × IsPart (length z) t.span × (gap (drop t.span.start z) ≡ 0)
     × (t ≡ placed t.span.start (token state (drop t.span.start z))) × StandFrom z t.span.«end» (after state t.kind) ts
 
 -- the tokens stand in the bytes one after the other, and nothing else does

@@ -4,11 +4,13 @@ ghost use Rattle.sql_lex.specs.Content.{AreMeant, SpellsName, SpellsText, name_o
 ghost use Rattle.sql_lex.specs.Signs.{IsLongest, sign, signs};
 ghost use Rattle.sql_lex.specs.Stand.{StandIn, AreParts};
 ghost use Rattle.sql_lex.specs.Tokens.{tokens};
+ghost use Rattle.sql_tree.specs.declared.token.Token.{Token};
 
 /// A law: the tokens stand in the bytes one after the other, each as the bytes there and the tokens
-/// before it say, and between them is nothing but white space and comments.
+/// before it say, and between them is nothing but white space and comments; and no other tokens do.
 pub fn tokens_stand()
-    ensures { (bytes : List ℕ) → StandIn bytes (tokens bytes) }
+    ensures stand { (bytes : List ℕ) → StandIn bytes (tokens bytes) }
+    ensures alone { (bytes : List ℕ) (others : List Token) → StandIn bytes others → others ≡ tokens bytes }
 {}
 
 /// A law: each token has a byte at least, and ends within the bytes and before the next begins.
