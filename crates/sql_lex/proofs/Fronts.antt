@@ -1,14 +1,14 @@
 -- Tokens taken alone.
+use Rattle.sql_lex.proofs.Choices.{both_true, choose, is_equal}
 use Rattle.std.proofs.Common.{◌≡◌, ◌∙◌, ℕ, zero, suc, ◌+◌, ◌-◌, ◌≤◌, Bool, true, false, List, [], ◌∷◌, length, take, drop, get_or, refl, ap, sym, subst, arith, nat_lt, Some}
 use Rattle.std.specs.Prelude.{◌&&◌, ◌==◌, not, if◌then◌else◌}
-use Rattle.std.proofs.lemmas.Bool.Decides.{nat_tests}
 use Rattle.std.proofs.lemmas.List.{drop-take, length-take}
 use Rattle.sql_lex.specs.declared.bytes.Class.{Class}
 use Rattle.sql_lex.specs.declared.bytes.Class.TheVariants as class
 use Rattle.sql_lex.specs.Bytes.{is_in, run, begins_with}
 use Rattle.sql_lex.specs.Numbers.{number_len, fraction_len}
 use Rattle.sql_lex.specs.Quotes.{closing}
-use Rattle.sql_lex.proofs.Within.{choose, both_true, closing_within}
+use Rattle.sql_lex.proofs.Within.{closing_within}
 
 -- a run in a part that has it whole
 pub run_take : (c : Class) (n : ℕ) (z : List ℕ) → run c z ≤ n → run c (take n z) ≡ run c z
@@ -61,9 +61,6 @@ pub record Ends (q : ℕ) (second : Bool) (at n : ℕ) (z : List ℕ) : Type 0 w
 
 same_number : (m n : ℕ) → Some m ≡ Some n → m ≡ n
 same_number m n h = cc
-
-pub is_equal : (b q : ℕ) → (b == q) ≡ true → b ≡ q
-is_equal b q is = grind (arith, nat_tests)
 
 ends_here : (q : ℕ) (second : Bool) (at b : ℕ) (z : List ℕ) → (not second && (b == q && not (begins_with q z))) ≡ true → Ends q second at 1 (b ∷ z)
 ends_here q second at b z e =

@@ -1,4 +1,5 @@
 -- What is halved between quotes is text where it was text.
+use Rattle.sql_lex.proofs.Choices.{both_true, choose}
 use Rattle.std.proofs.Common.{◌≡◌, ◌∙◌, ℕ, suc, ◌<◌, ◌≤◌, Bool, true, false, List, [], ◌∷◌, ◌++◌, length, get_or, refl, ap, sym, subst, arith, inl, inr, append-nil}
 use Rattle.std.specs.Prelude.{◌&&◌, ◌==◌, IsUtf8}
 use Rattle.std.proofs.lemmas.Bool.{cases_lt}
@@ -6,7 +7,6 @@ use Rattle.std.proofs.lemmas.Bool.Decides.{nat_tests}
 use Rattle.std.proofs.lemmas.Str.{IsUtf8-append, IsUtf8-nil, IsUtf8-encode, encode_ascii, inside_one, length-encode, len_utf8_bounds}
 use lib.Utf8.{encode, encodes, scalar, scalars}
 use Rattle.sql_lex.specs.Content.{halved}
-use Rattle.sql_lex.proofs.Within.{both_true, choose}
 
 differ : (b q : ℕ) → q < 128 → 128 ≤ b → (b == q) ≡ false
 differ b q low high = grind (arith, nat_tests)

@@ -1,3 +1,4 @@
+pub mod Choices
 pub mod Digits
 pub mod Fronts
 pub mod Halves

@@ -1,4 +1,5 @@
 -- The sign that is read is the longest that stands there.
+use Rattle.sql_lex.proofs.Choices.{both_true, is_equal}
 use Rattle.std.proofs.Common.{◌≡◌, ◌∙◌, ℕ, ◌<◌, ◌≤◌, Bool, true, false, List, [], ◌∷◌, length, refl, sym, arith, nat_lt, nat_eq, inl, inr}
 use Rattle.std.specs.Prelude.{◌&&◌, not, if◌then◌else◌}
 use Rattle.std.specs.List.{All, starts_with}
@@ -7,8 +8,6 @@ use Rattle.std.proofs.lemmas.Bool.Decides.{nat_tests}
 use Rattle.std.proofs.lemmas.List.Elements.{All-cons, All-nil}
 use Rattle.sql_tree.specs.declared.token.Kind.{Kind}
 use Rattle.sql_lex.specs.Signs.{IsLongest, sign_in, signs, sign}
-use Rattle.sql_lex.proofs.Fronts.{is_equal}
-use Rattle.sql_lex.proofs.Within.{both_true}
 
 -- of two fronts of a text the shorter is a front of the longer
 front_of_front : (z d e : List ℕ) → starts_with nat_eq z d ≡ true → starts_with nat_eq z e ≡ true → length d ≤ length e → starts_with nat_eq e d ≡ true

@@ -1,4 +1,5 @@
 -- What the tokens of bytes mean, each taken alone.
+use Rattle.sql_lex.proofs.Choices.{both_true, choose, equal_self, is_equal}
 use Rattle.std.proofs.Common.{◌≡◌, ◌∙◌, ℕ, zero, suc, ◌+◌, ◌-◌, ◌%◌, ◌^◌, ◌<◌, ◌≤◌, Bool, true, false, List, [], ◌∷◌, ◌++◌, length, take, drop, get_or, refl, ap, sym, subst, arith, nat_lt, Some, None}
 use Rattle.std.specs.Prelude.{◌&&◌, ◌||◌, ◌==◌, not, nat_le, if◌then◌else◌, IsSome, IsUtf8}
 use Rattle.std.specs.List.{AllPass, starts_with}
@@ -29,9 +30,9 @@ use Rattle.sql_tree.specs.declared.token.Token.{Token}
 use Rattle.sql_lex.proofs.Standing.{tokens_stand}
 use Rattle.std.proofs.Common.{length-drop}
 use Rattle.sql_lex.specs.Words.{kind_in, reserved, placed, word_kind, word}
-use Rattle.sql_lex.proofs.Fronts.{run_take, taken, number_take, Ends, ends, is_equal, get_later}
+use Rattle.sql_lex.proofs.Fronts.{run_take, taken, number_take, Ends, ends, get_later}
 use Rattle.sql_lex.proofs.Halves.{halved_text}
-use Rattle.sql_lex.proofs.Within.{choose, both_true, number_within, run_some, run_within, leaves_room}
+use Rattle.sql_lex.proofs.Within.{letter_goes_on, number_within, run_some, run_within, leaves_room}
 
 -- ---- kinds that mean a name at most
 
@@ -106,13 +107,7 @@ run_ascii (b ∷ z) = choose (λ n. IsAscii (take n (b ∷ z))) (is_in class.Wor
 pub if_some : (w : List ℕ) → IsUtf8 w → IsSome (if_text w)
 if_some w text = let e : is_utf8 w ≡ true = is_utf8-from_IsUtf8 w text in rw e refl
 
-pub equal_self : (n : ℕ) → (n == n) ≡ true
-equal_self n = grind (arith, nat_tests)
-
-goes_on : (b : ℕ) → is_in class.Letter b ≡ true → is_in class.Word b ≡ true
-goes_on b is = grind (arith, nat_tests)
-
-no_backquote : (b : ℕ) → is_in class.Letter b ≡ true → (b == 96) ≡ false
+pub no_backquote : (b : ℕ) → is_in class.Word b ≡ true → (b == 96) ≡ false
 no_backquote b is = grind (arith, nat_tests)
 
 first_taken : (n b : ℕ) (z : List ℕ) → 1 ≤ n → take n (b ∷ z) ≡ b ∷ take (n - 1) z
@@ -129,10 +124,10 @@ word_named : (b : ℕ) (z : List ℕ) → is_in class.Letter b ≡ true → IsSo
 word_named b z is =
     let n = run class.Word (b ∷ z) in
     let s = take n (b ∷ z) in
-    let some : 1 ≤ n = run_some class.Word b z (goes_on b is) in
+    let some : 1 ≤ n = run_some class.Word b z (letter_goes_on b is) in
     let len : length s ≡ n = taken n (b ∷ z) (run_within class.Word (b ∷ z)) in
     let all : run class.Word s ≡ n = run_take class.Word n (b ∷ z) (omega arith) in
-    let unquoted : is_quoted 96 s ≡ false = rw (first_taken n b z some) (not_quoted b (take (n - 1) z) (no_backquote b is)) in
+    let unquoted : is_quoted 96 s ≡ false = rw (first_taken n b z some) (not_quoted b (take (n - 1) z) (no_backquote b (letter_goes_on b is))) in
     let is_one : is_word s ≡ true = rw (len, all, above n some, equal_self n) refl in
     rw unquoted (rw is_one (if_some s (IsUtf8-from_ascii s (run_ascii (b ∷ z)))))
 
@@ -220,10 +215,6 @@ left false q h e = absurd (clash q e h)
 module _ (b len : ℕ) (z : List ℕ) (small : b < 128) (end : Ends b false 0 len z) where
   y : List ℕ
   y = take len z
-
-  y_len : length y ≡ len
-  unfolding y
-  y_len = taken len z end.within
 
   is_one : is_quoted b (b ∷ y) ≡ true
   unfolding y

@@ -1,4 +1,5 @@
 -- Quoted texts are read as they are spelled.
+use Rattle.sql_lex.proofs.Choices.{both_true, choose, equal_self, is_equal}
 use Rattle.std.proofs.Common.{◌≡◌, ◌∙◌, ℕ, suc, ◌+◌, ◌-◌, ◌<◌, ◌≤◌, true, false, List, [], ◌∷◌, ◌++◌, length, take, refl, ap, sym, subst, arith, Option, Some, None, length-append, nat_lt}
 use Rattle.std.specs.Prelude.{◌&&◌, ◌==◌, not, if◌then◌else◌, IsUtf8}
 use Rattle.std.proofs.Common.{inl, inr}
@@ -11,10 +12,8 @@ use Rattle.sql_lex.specs.declared.bytes.Class.TheVariants as class
 use Rattle.sql_lex.specs.Bytes.{is_in, run, are_in}
 use Rattle.sql_lex.specs.Content.{SpellsName, SpellsText, doubled, halved, in_quotes, is_quoted, is_word, ends_at, if_text, name_of, text_of}
 use Rattle.sql_lex.specs.Quotes.{closing, inside}
-use Rattle.sql_lex.proofs.Fronts.{is_equal}
-use Rattle.sql_lex.proofs.Meaning.{equal_self, run_ascii}
+use Rattle.sql_lex.proofs.Meaning.{no_backquote, run_ascii}
 use Rattle.sql_lex.proofs.Quoting.{quotes_again}
-use Rattle.sql_lex.proofs.Within.{both_true, choose}
 
 -- all but the last byte
 abbrev pub init : List ℕ → List ℕ
@@ -136,9 +135,6 @@ texts_again z text h =
     rw h.0 (rw (quoted_again 39 text, content_again 39 text) (text_again text h.1))
 
 -- ---- names
-
-no_backquote : (b : ℕ) → is_in class.Word b ≡ true → (b == 96) ≡ false
-no_backquote b is = grind (arith, nat_tests)
 
 word_unquoted : (z : List ℕ) → is_word z ≡ true → is_quoted 96 z ≡ false
 word_unquoted [] h = refl

@@ -1,4 +1,5 @@
 -- Tokens stand in bytes one after the other.
+use Rattle.sql_lex.proofs.Choices.{above_zero}
 use Rattle.std.proofs.Common.{◌≡◌, ◌∙◌, ℕ, zero, suc, ◌+◌, ◌<◌, ◌≤◌, true, false, nat_lt, List, [], ◌∷◌, length, drop, length-drop, refl, arith, sym, ap, subst}
 use Rattle.std.proofs.lemmas.Bool.Decides.{nat_tests}
 use Rattle.std.proofs.lemmas.List.{drop-drop}
@@ -15,9 +16,6 @@ use Rattle.sql_lex.proofs.Within.{token_front, gap_within}
 blank_first : (z : List ℕ) (at : ℕ) (state : Before) (ts : List Token) → 0 < gap (drop at z) → StandFrom z (at + gap (drop at z)) state ts → StandFrom z at state ts
 blank_first z at state [] some rest = more at (length z) some rest
 blank_first z at state (t ∷ ts) some rest = (omega (arith, rest.0), more at t.span.start some rest.1, rest.2, rest.3, rest.4, rest.5)
-
-positive : (n : ℕ) → nat_lt 0 n ≡ true → 0 < n
-positive n is = grind (arith, nat_tests)
 
 not_positive : (n : ℕ) → nat_lt 0 n ≡ false → n ≤ 0
 not_positive n is = grind (arith, nat_tests)
@@ -61,14 +59,14 @@ stand_from (suc left) z at state inside room =
     elim (nat_lt 0 (length (drop at z))) as (λ v. nat_lt 0 (length (drop at z)) ≡ v → StandFrom z at state (scan 0 at state (drop at z))) [
       | false ↦ λ e. ended z at state inside (omega (arith, not_positive (length (drop at z)) e, length-drop at z))
       | true ↦ λ e.
-          let before_end : at < length z = omega (arith, positive (length (drop at z)) e, length-drop at z) in
+          let before_end : at < length z = omega (arith, above_zero (length (drop at z)) e, length-drop at z) in
           elim (nat_lt 0 (gap (drop at z))) as (λ v. nat_lt 0 (gap (drop at z)) ≡ v → StandFrom z at state (scan 0 at state (drop at z))) [
             | true ↦ λ g.
-                let some = positive (gap (drop at z)) g in
+                let some = above_zero (gap (drop at z)) g in
                 with_gap z at state before_end some
                 (stand_from left z (at + gap (drop at z)) state (omega (arith, gap_within (drop at z), length-drop at z)) (omega (arith, some)))
             | false ↦ λ g.
-                let front = token_front state (drop at z) (positive (length (drop at z)) e) in
+                let front = token_front state (drop at z) (above_zero (length (drop at z)) e) in
                 with_token z at state before_end (not_positive (gap (drop at z)) g)
                 (stand_from left z (at + (token state (drop at z)).len) (after state (token state (drop at z)).kind)
                 (omega (arith, front.within, length-drop at z)) (omega (arith, front.some)))

@@ -18,6 +18,7 @@ use Rattle.sql_lex.specs.Signs.{sign_in, signs, sign}
 use Rattle.sql_lex.specs.Tables.{table_len, table}
 use Rattle.sql_lex.specs.Tokens.{common, token, gap, comment_len, is_table_due}
 use Rattle.sql_lex.specs.Words.{word}
+use Rattle.sql_lex.proofs.Choices.{above_zero, both_true, choose}
 use Rattle.sql_lex.proofs.SignLengths.{sign_lasts}
 
 pub record IsFront (z : List ℕ) (p : Piece) : Type 0 where
@@ -30,15 +31,6 @@ run_within c z = prefix_len-le-length (is_in c) z
 -- a first byte of the class is one
 pub run_some : (c : Class) (b : ℕ) (z : List ℕ) → is_in c b ≡ true → 1 ≤ run c (b ∷ z)
 run_some c b z is = rw is (omega arith)
-
-pub both_true : (p q : Bool) → (p && q) ≡ true → (p ≡ true) × (q ≡ true)
-both_true true q h = (refl, h)
-both_true false q h = absurd (cc)
-
--- what holds of both branches holds of the choice
-pub choose : {A : Type 0} (P : A → Type 0) (b : Bool) (x y : A) → (b ≡ true → P x) → (b ≡ false → P y) → P (if b then x else y)
-choose P true x y f g = f refl
-choose P false x y f g = g refl
 
 table_within : (z : List ℕ) → table_len z ≤ length z
 table_within [] = omega arith
@@ -109,7 +101,7 @@ bytes_front (b ∷ c ∷ z) is =
     (λ _. record { some = omega arith; within = omega arith })
     (λ e. record { some = omega arith; within = leaves_room (run class.Inner z) (length z) e (run_within class.Inner z) })
 
-letter_goes_on : (b : ℕ) → is_in class.Letter b ≡ true → is_in class.Word b ≡ true
+pub letter_goes_on : (b : ℕ) → is_in class.Letter b ≡ true → is_in class.Word b ≡ true
 letter_goes_on b is = grind (arith, nat_tests)
 
 word_front : (b : ℕ) (z : List ℕ) → is_in class.Letter b ≡ true → IsFront (b ∷ z) (word (b ∷ z))
@@ -128,9 +120,6 @@ common_front b z =
 
 dash_in_line : (b : ℕ) → (b == 45) ≡ true → is_in class.Line b ≡ true
 dash_in_line b is = grind (arith, nat_tests)
-
-above_zero : (n : ℕ) → nat_lt 0 n ≡ true → 1 ≤ n
-above_zero n is = grind (arith, nat_tests)
 
 pub token_front : (state : Before) (z : List ℕ) → 0 < length z → IsFront z (token state z)
 unfolding token
