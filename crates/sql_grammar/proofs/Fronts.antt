@@ -1,7 +1,6 @@
 -- Of each production: what stands behind it doesn't matter, and each front of what it derives begins it.
-use Rattle.std.proofs.Common.{◌≡◌, ℕ, zero, suc, Bool, List}
-use Rattle.std.specs.Prelude.{Option}
-use Rattle.token_lang.specs.Lang.{Lang, one, both, either, valued, many, never, any_of}
+use Rattle.std.proofs.Common.{ℕ, zero, suc}
+use Rattle.token_lang.specs.Lang.{Lang, both, valued, never}
 use Rattle.token_lang.specs.Meets.{Plain}
 use Rattle.token_lang.proofs.Place.{never_local}
 use Rattle.token_lang.proofs.Cut.{never_cuts, any_cuts}
@@ -11,7 +10,6 @@ use Rattle.sql_tree.specs.declared.token.Kind.{Kind}
 use Rattle.sql_tree.specs.declared.token.Kind.TheVariants as k
 use Rattle.sql_tree.specs.declared.token.Token.{Token}
 use Rattle.sql_tree.specs.declared.tree.Expr.{Expr}
-use Rattle.sql_tree.specs.declared.tree.Stmt.{Stmt}
 use Rattle.sql_tree.specs.Kinds.{is, any, names, names_alone, is_value, compares, multiplies, signs, is_truth, is_plain_type, is_text, is_table, dates}
 use Rattle.sql_grammar.specs.Grammar as g
 use Rattle.sql_grammar.specs.Tree as tree
@@ -39,7 +37,7 @@ module _ {A : Type 0} {D : Lang Token A} (x : Plain D) where
 
 pub type_plain : (depth : ℕ) → Plain (g.written_type depth)
 type_plain depth = either_plain (valued_plain tree.plain_type (one_plain (any is_plain_type)))
-  (valued_plain tree.decimal_type (both_plain (token_plain k.DecimalWord) (both_plain (opening_plain depth k.Open)
+    (valued_plain tree.decimal_type (both_plain (token_plain k.DecimalWord) (both_plain (opening_plain depth k.Open)
     (both_plain (token_plain k.Whole) (both_plain (token_plain k.Comma) (both_plain (token_plain k.Whole) (token_plain k.Close)))))))
 
 pub type_inside_plain : (depth : ℕ) → Plain (g.type_inside depth)

@@ -1,10 +1,10 @@
 -- Of each production: what begins it goes on to what it derives, where one more bracket may be opened.
 use Rattle.std.proofs.Common.{◌≡◌, ℕ, zero, suc, Bool, true, List, [], ◌∷◌, refl}
-use Rattle.std.specs.Prelude.{Option, Some, None}
-use Rattle.token_lang.specs.Lang.{Lang, one, nothing, both, either, valued, many, any_of}
+use Rattle.std.specs.Prelude.{Some, None}
+use Rattle.token_lang.specs.Lang.{Lang, one, both, valued}
 use Rattle.token_lang.specs.Exact.{Local, Grows}
 use Rattle.token_lang.specs.Meets.{Plain}
-use Rattle.token_lang.proofs.Place.{one_local, both_local, either_local, valued_local, many_local}
+use Rattle.token_lang.proofs.Place.{one_local, both_local, many_local}
 use Rattle.token_lang.proofs.All.{one_plain, maybe_plain}
 use Rattle.token_lang.proofs.Grow.{one_grows, nothing_grows, never_grows, both_grows, either_grows, valued_grows, many_grows, limit_grows, any_grows, all_grow}
 use Rattle.sql_tree.specs.declared.token.Kind.{Kind}
@@ -17,7 +17,7 @@ use Rattle.sql_grammar.specs.Grammar as g
 use Rattle.sql_grammar.specs.Reading.{run_inside, run_type_inside}
 use Rattle.sql_grammar.specs.Tree as tree
 use Rattle.sql_grammar.proofs.Readers.{inside_leads, type_inside_leads}
-use Rattle.sql_grammar.proofs.Fronts.{opening_plain, next_plain, some_plain, commas_plain, type_plain, type_inside_plain, branch_plain, otherwise_plain, primary_plain, sign_plain, prod_plain, sum_plain, cat_plain, negation_plain, conjunction_plain, inside_plain, expr_plain, any_expr_plain, statement_plain, ended_plain}
+use Rattle.sql_grammar.proofs.Fronts.{opening_plain, next_plain, some_plain, commas_plain, type_inside_plain, branch_plain, otherwise_plain, sign_plain, prod_plain, sum_plain, cat_plain, negation_plain, conjunction_plain, inside_plain, statement_plain, ended_plain}
 
 -- a token of a kind
 abbrev a : Kind → Token
@@ -69,9 +69,9 @@ module _ {A : Type 0} {D D' : Lang Token A} (x : Grows D D') (l : Plain D') wher
 
 type_grows : (depth : ℕ) → Grows (g.written_type depth) (g.written_type (suc depth))
 type_grows depth = either_grows (valued_grows tree.plain_type (class_grows is_plain_type k.Boolean refl))
-  (valued_grows tree.decimal_type (both_grows (token_grows k.DecimalWord refl) (both_grows (opening_grows depth k.Open refl)
+    (valued_grows tree.decimal_type (both_grows (token_grows k.DecimalWord refl) (both_grows (opening_grows depth k.Open refl)
     (both_grows (token_grows k.Whole refl) (both_grows (token_grows k.Comma refl) (both_grows (token_grows k.Whole refl) (token_grows k.Close refl) (token_local k.Whole))
-      (token_local k.Comma)) (token_local k.Whole)) (open_local (suc depth) k.Open)) (token_local k.DecimalWord)))
+    (token_local k.Comma)) (token_local k.Whole)) (open_local (suc depth) k.Open)) (token_local k.DecimalWord)))
 
 a_type : (ts : List Token) × (t : WrittenType) × (g.type_inside 1).reads ts t []
 unfolding g.type_inside run_type_inside

@@ -1,18 +1,16 @@
 -- Each production is read by its reader. The side conditions are those of a grammar that is read with one token in view:
 -- no token may both go on with one part and begin the next. They are computed over all kinds.
-use Rattle.std.proofs.Common.{◌≡◌, ℕ, zero, suc, Bool, true, false, List, [], ◌∷◌, Ok, Err, refl}
-use Rattle.std.specs.Prelude.{◌||◌, Option, Some, None}
-use Rattle.token_lang.specs.Lang.{Lang, one, both, either, valued, many, never, at_most}
-use Rattle.token_lang.specs.Run.{Reader, made, run_one, run_both, run_either, run_many}
+use Rattle.std.proofs.Common.{ℕ, zero, suc, Bool, false, refl}
+use Rattle.std.specs.Prelude.{◌||◌}
+use Rattle.token_lang.specs.Lang.{Lang, both, either, valued}
+use Rattle.token_lang.specs.Run.{Reader}
 use Rattle.token_lang.specs.Exact.{Apart}
-use Rattle.token_lang.specs.Meets.{Plain, Meets, Leads}
-use Rattle.token_lang.proofs.All.{one_leads, never_leads, goes_leads, valued_leads, valued_meets, both_leads, then_maybe_leads, maybe_then_leads, either_leads, many_meets, maybe_meets, limit_leads, chain_leads}
+use Rattle.token_lang.specs.Meets.{Meets, Leads}
+use Rattle.token_lang.proofs.All.{one_leads, never_leads, goes_leads, valued_leads, both_leads, then_maybe_leads, maybe_then_leads, either_leads, many_meets, maybe_meets, limit_leads, chain_leads}
 use Rattle.sql_tree.specs.declared.token.Kind.{Kind}
 use Rattle.sql_tree.specs.declared.token.Kind.TheVariants as k
 use Rattle.sql_tree.specs.declared.token.Token.{Token}
-use Rattle.sql_tree.specs.declared.tree.WrittenType.{WrittenType}
 use Rattle.sql_tree.specs.declared.tree.Expr.{Expr}
-use Rattle.sql_tree.specs.declared.tree.Stmt.{Stmt}
 use Rattle.sql_tree.specs.Kinds.{is, any, names, names_alone, is_value, compares, multiplies, signs, is_truth, is_plain_type, is_text, is_table, dates}
 use Rattle.sql_tree.proofs.KindLaws.{apart, among}
 use Rattle.sql_grammar.specs.Grammar as g
@@ -68,9 +66,9 @@ module _ {A : Type 0} {D : Lang Token A} {f : Reader Token A} {first goes : Toke
 
 pub type_leads : (depth : ℕ) → Leads (g.written_type depth) (r.run_type depth) (λ t. any is_plain_type t || is k.DecimalWord t) none
 type_leads depth = either_leads (valued_leads tree.plain_type (one_leads (any is_plain_type)))
-  (valued_leads tree.decimal_type (both_leads (token_leads k.DecimalWord) (both_leads (opening_leads depth k.Open) (both_leads (token_leads k.Whole)
-      (both_leads (token_leads k.Comma) (both_leads (token_leads k.Whole) (token_leads k.Close) (λ t _. refl)) (λ t _. refl)) (λ t _. refl)) (λ t _. refl)) (λ t _. refl)))
-  (apart _ _ (λ s. refl))
+    (valued_leads tree.decimal_type (both_leads (token_leads k.DecimalWord) (both_leads (opening_leads depth k.Open) (both_leads (token_leads k.Whole)
+    (both_leads (token_leads k.Comma) (both_leads (token_leads k.Whole) (token_leads k.Close) (λ t _. refl)) (λ t _. refl)) (λ t _. refl)) (λ t _. refl)) (λ t _. refl)))
+    (apart _ _ (λ s. refl))
 
 pub type_inside_leads : (depth : ℕ) → Leads (g.type_inside depth) (r.run_type_inside depth) (λ t. any is_plain_type t || is k.DecimalWord t) none
 unfolding g.type_inside r.run_type_inside
@@ -129,7 +127,7 @@ module _ (depth : ℕ) {B : Lang Token Expr} {f : Reader Token Expr} (x : Leads 
   pub primary_leads : Leads (g.primary depth B) (r.run_primary depth f) first_primary first_dated_tail
   primary_leads = goes_leads first_dated_tail (among _ _ (λ s. refl)) (either_leads (valued_leads tree.literal (one_leads (any is_value)))
       (either_leads dated_leads (either_leads group_leads (either_leads named_leads (either_leads case_leads cast_leads
-        (apart _ _ (λ s. refl))) (apart _ _ (λ s. refl))) (apart _ _ (λ s. refl))) (apart _ _ (λ s. refl))) (apart _ _ (λ s. refl)))
+      (apart _ _ (λ s. refl))) (apart _ _ (λ s. refl))) (apart _ _ (λ s. refl))) (apart _ _ (λ s. refl))) (apart _ _ (λ s. refl)))
 
   pub sign_leads : Leads (g.sign depth B) (r.run_sign depth f) first_sign first_dated_tail
   sign_leads = valued_leads tree.all_prefixed (maybe_then_leads (many_meets (one_leads (any signs)) (λ t _. refl)) primary_leads (apart _ _ (λ s. refl)))

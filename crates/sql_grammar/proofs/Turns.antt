@@ -1,12 +1,12 @@
 -- What a turn of a loop, and a bracket that is opened, come to.
 use Rattle.std.proofs.Common.{◌≡◌, ◌∙◌, ◌<◌, ◌-◌, ◌++◌, sub-one, ap, sym, arith, ℕ, zero, suc, Bool, true, false, List, [], ◌∷◌, length, Ok, Err, refl, append-nil, append_assoc}
-use Rattle.std.specs.Prelude.{fold, Option, Some, None}
+use Rattle.std.specs.Prelude.{fold, Option, Some}
 use Rattle.token_lang.specs.Lang.{Lang, one, both}
 use Rattle.token_lang.specs.Run.{Reader, Outcome, made, sees, run_one, run_both, run_many, run_rest}
 use Rattle.token_lang.specs.Exact.{Fits}
 use Rattle.token_lang.specs.Meets.{Leads}
 use Rattle.token_lang.proofs.All.{one_leads, both_leads}
-use Rattle.token_lang.proofs.Loops.{at_end, rest_begins, rest_err, rest_goes_on, item_ok, item_err}
+use Rattle.token_lang.proofs.Loops.{at_end, rest_goes_on, item_ok}
 use Rattle.sql_tree.specs.declared.token.Kind.{Kind}
 use Rattle.sql_tree.specs.declared.token.Token.{Token}
 use Rattle.sql_tree.specs.declared.tree.Expr.{Expr}

@@ -1,5 +1,5 @@
 -- The grammar. A production goes with a number, how many brackets and CASEs may still be opened within one another.
-use Rattle.std.specs.Prelude.{ℕ, zero, suc, Bool, true, false, List, [], ◌∷◌, Option, Some, None}
+use Rattle.std.specs.Prelude.{ℕ, zero, suc, Bool, List, ◌∷◌, Option, Some, None}
 use Rattle.token_lang.specs.Lang.{Lang, one, nothing, never, both, either, valued, many, at_most, any_of}
 use Rattle.sql_tree.specs.declared.token.Kind.{Kind}
 use Rattle.sql_tree.specs.declared.token.Kind.TheVariants as k
@@ -65,7 +65,7 @@ table = one (any is_table)
 -- type = BOOLEAN | TINYINT | SMALLINT | INT | BIGINT | STRING | BINARY | DATE | TIMESTAMP | DECIMAL "(" n "," n ")"
 abbrev pub written_type : ℕ → Lang Token WrittenType
 written_type depth = either (valued tree.plain_type (one (any is_plain_type)))
-  (valued tree.decimal_type (both (token k.DecimalWord) (both (opening depth k.Open) (both whole (both (token k.Comma) (both whole (token k.Close)))))))
+    (valued tree.decimal_type (both (token k.DecimalWord) (both (opening depth k.Open) (both whole (both (token k.Comma) (both whole (token k.Close)))))))
 
 -- a type within one more bracket
 unfoldable pub type_inside : ℕ → Lang Token WrittenType

@@ -1,6 +1,6 @@
 -- The readers of the productions, each as its production is written.
-use Rattle.std.specs.Prelude.{ℕ, zero, suc, Bool, true, false, ◌||◌, List, [], ◌∷◌, Option, Some, None, Result, Ok, Err, length}
-use Rattle.token_lang.specs.Run.{Reader, Outcome, made, run_one, run_both, run_either, run_many, run_at_most}
+use Rattle.std.specs.Prelude.{ℕ, zero, suc, Bool, ◌||◌, List, Option, Some, None, Ok, Err, length}
+use Rattle.token_lang.specs.Run.{Reader, made, run_one, run_both, run_either, run_many, run_at_most}
 use Rattle.sql_tree.specs.declared.token.Kind.{Kind}
 use Rattle.sql_tree.specs.declared.token.Kind.TheVariants as k
 use Rattle.sql_tree.specs.declared.token.Token.{Token}

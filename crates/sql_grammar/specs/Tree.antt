@@ -1,5 +1,5 @@
 -- The trees that the grammar makes: what each form keeps of its tokens and parts.
-use Rattle.std.specs.Prelude.{ℕ, Bool, true, false, List, [], ◌∷◌, fold, Option, Some, None, is_some}
+use Rattle.std.specs.Prelude.{List, [], ◌∷◌, fold, Option, Some, None, is_some}
 use Rattle.sql_tree.specs.declared.token.Kind.{Kind}
 use Rattle.sql_tree.specs.declared.token.Kind.TheVariants as k
 use Rattle.sql_tree.specs.declared.token.Token.{Token}

@@ -1,15 +1,14 @@
 -- What is read of the front of the tokens, and of all of them.
-use Rattle.std.proofs.Common.{◌≡◌, ◌≤◌, ℕ, ◌-◌, List, [], ◌∷◌, subst, ◌++◌, length, take, drop, min, Result, Ok, Err, refl, sym, ap, ◌∙◌, length-take}
+use Rattle.std.proofs.Common.{◌≡◌, ℕ, ◌-◌, List, [], subst, length, take, drop, min, Result, Ok, Err, refl, sym, ap, ◌∙◌, length-take}
 use Rattle.std.proofs.lemmas.List.{take_min}
-use Rattle.token_lang.specs.Run.{Outcome, before, run_at_most}
+use Rattle.token_lang.specs.Run.{Outcome, before}
 use Rattle.token_lang.specs.Exact.{Fits}
-use Rattle.token_lang.specs.Meets.{Leads}
 use Rattle.token_lang.proofs.Place.{is_end, is_end_begins, end_of_front}
 use Rattle.sql_tree.specs.declared.token.Token.{Token}
 use Rattle.sql_tree.specs.declared.tree.Expr.{Expr}
 use Rattle.sql_grammar.specs.Grammar.{expr}
-use Rattle.sql_grammar.specs.Reading.{run_expr, run_expression, first_expr}
-use Rattle.sql_grammar.proofs.Readers.{expr_leads, after_expr}
+use Rattle.sql_grammar.specs.Reading.{run_expr, run_expression}
+use Rattle.sql_grammar.proofs.Readers.{expr_leads}
 use Rattle.sql_reader.specs.declared.fault.Fault.{Fault}
 use Rattle.sql_reader.specs.declared.fault.Fault.TheVariants.{Memory, Refused}
 use Rattle.sql_reader.specs.declared.fault.ScriptFault.{ScriptFault}

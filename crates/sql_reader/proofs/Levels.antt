@@ -1,5 +1,5 @@
 -- The levels of operators.
-use Rattle.std.proofs.Common.{◌≡◌, ℕ, Bool, refl}
+use Rattle.std.proofs.Common.{ℕ, Bool}
 use Rattle.token_lang.specs.Lang.{Lang}
 use Rattle.token_lang.specs.Meets.{Leads}
 use Rattle.sql_tree.specs.declared.token.Token.{Token}

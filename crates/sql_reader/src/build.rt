@@ -165,7 +165,12 @@ pub(crate) fn with_not(not: Option<Token>, word: Token) -> Span
 }
 
 // The two sides of an operator.
-pub(crate) fn join(alloc: Global, left: Expr, operator: Token, right: Expr) -> Result<Expr, AllocError>
+pub(crate) fn join(
+    alloc: Global,
+    left: Expr,
+    operator: Token,
+    right: Expr,
+) -> Result<Expr, AllocError>
     ensures { IfOk result (λ e. e ≡ tree.joined left (operator, right)) }
 {
     let whole = to(span_of(&left), span_of(&right));

@@ -166,7 +166,12 @@ fn maybe_list(alloc: Global, tokens: &mut Tokens<'_>, depth: usize) -> Result<Op
 
 // Arguments in brackets behind a function's name.
 #[cycle(expr)]
-fn arguments(alloc: Global, tokens: &mut Tokens<'_>, depth: usize, name: Token) -> Result<Expr, Fault>
+fn arguments(
+    alloc: Global,
+    tokens: &mut Tokens<'_>,
+    depth: usize,
+    name: Token,
+) -> Result<Expr, Fault>
     ensures { Gives (made (λ f. f name) (reading.run_arguments depth (run_inside depth) tokens.old)) result tokens.new }
 {
     open(tokens, depth, Kind::Open)?;
@@ -189,7 +194,12 @@ fn tail(alloc: Global, tokens: &mut Tokens<'_>, depth: usize, name: Token) -> Re
 
 // What stands behind DATE or TIMESTAMP.
 #[cycle(expr)]
-fn dated_tail(alloc: Global, tokens: &mut Tokens<'_>, depth: usize, word: Token) -> Result<Expr, Fault>
+fn dated_tail(
+    alloc: Global,
+    tokens: &mut Tokens<'_>,
+    depth: usize,
+    word: Token,
+) -> Result<Expr, Fault>
     ensures { Gives (made (λ f. f word) (reading.run_dated_tail depth (run_inside depth) tokens.old)) result tokens.new }
 {
     if tokens.sees_any(Class::Text) {
@@ -266,7 +276,12 @@ fn case(alloc: Global, tokens: &mut Tokens<'_>, depth: usize) -> Result<Expr, Fa
     let otherwise = otherwise(alloc, tokens, depth)?;
     let end = tokens.take(Kind::End)?;
     let otherwise = build::boxed(alloc, otherwise)?;
-    Ok(Expr::Case(build::to(word.span, end.span), word.span, branches, otherwise))
+    Ok(Expr::Case(
+        build::to(word.span, end.span),
+        word.span,
+        branches,
+        otherwise,
+    ))
 }
 
 #[cycle(expr)]
@@ -316,7 +331,12 @@ fn sign(alloc: Global, tokens: &mut Tokens<'_>, depth: usize) -> Result<Expr, Fa
 
 // Operands of a level with its operators between them.
 #[cycle(expr)]
-pub(crate) fn chain(alloc: Global, tokens: &mut Tokens<'_>, depth: usize, level: Level) -> Result<Expr, Fault>
+pub(crate) fn chain(
+    alloc: Global,
+    tokens: &mut Tokens<'_>,
+    depth: usize,
+    level: Level,
+) -> Result<Expr, Fault>
     ensures { Gives (reading.run_chain (operators level) (run_operand depth (run_inside depth) level) tokens.old) result tokens.new }
 {
     let mut left = operand(alloc, tokens, depth, level)?;
@@ -330,7 +350,12 @@ pub(crate) fn chain(alloc: Global, tokens: &mut Tokens<'_>, depth: usize, level:
 
 // What stands between the operators of a level.
 #[cycle(expr)]
-fn operand(alloc: Global, tokens: &mut Tokens<'_>, depth: usize, level: Level) -> Result<Expr, Fault>
+fn operand(
+    alloc: Global,
+    tokens: &mut Tokens<'_>,
+    depth: usize,
+    level: Level,
+) -> Result<Expr, Fault>
     ensures { Gives (run_operand depth (run_inside depth) level tokens.old) result tokens.new }
 {
     match level {
@@ -344,7 +369,12 @@ fn operand(alloc: Global, tokens: &mut Tokens<'_>, depth: usize, level: Level) -
 
 // A comparison behind its left side.
 #[cycle(expr)]
-fn comparison(alloc: Global, tokens: &mut Tokens<'_>, depth: usize, left: Expr) -> Result<Expr, Fault>
+fn comparison(
+    alloc: Global,
+    tokens: &mut Tokens<'_>,
+    depth: usize,
+    left: Expr,
+) -> Result<Expr, Fault>
     ensures { Gives (made (λ f. f left) (reading.run_comparison depth (run_inside depth) tokens.old)) result tokens.new }
 {
     let operator = tokens.take_any(Class::Comparison)?;
@@ -368,10 +398,11 @@ fn between(
     tokens.take(Kind::And)?;
     let high = chain(alloc, tokens, depth, Level::Concat)?;
     let whole = build::to(build::span_of(&operand), build::span_of(&high));
+    let place = build::with_not(not, word);
     let operand = Boxed::new(alloc, operand)?;
     let low = Boxed::new(alloc, low)?;
     let high = Boxed::new(alloc, high)?;
-    Ok(Expr::Between(whole, not.is_some(), build::with_not(not, word), operand, low, high))
+    Ok(Expr::Between(whole, not.is_some(), place, operand, low, high))
 }
 
 // IN behind its operand and the NOT before it.
@@ -391,7 +422,13 @@ fn among(
     let close = tokens.take(Kind::Close)?;
     let whole = build::to(build::span_of(&operand), close.span);
     let operand = Boxed::new(alloc, operand)?;
-    Ok(Expr::In(whole, not.is_some(), build::with_not(not, word), operand, items))
+    Ok(Expr::In(
+        whole,
+        not.is_some(),
+        build::with_not(not, word),
+        operand,
+        items,
+    ))
 }
 
 // BETWEEN or IN behind its operand, with a NOT or without.
@@ -408,7 +445,12 @@ fn range(alloc: Global, tokens: &mut Tokens<'_>, depth: usize, operand: Expr) ->
 
 // What is asked of an operand behind it.
 #[cycle(expr)]
-fn predicate(alloc: Global, tokens: &mut Tokens<'_>, depth: usize, operand: Expr) -> Result<Expr, Fault>
+fn predicate(
+    alloc: Global,
+    tokens: &mut Tokens<'_>,
+    depth: usize,
+    operand: Expr,
+) -> Result<Expr, Fault>
     ensures { Gives (made (λ f. f operand) (reading.run_predicate depth (run_inside depth) tokens.old)) result tokens.new }
 {
     if tokens.sees_any(Class::Comparison) {

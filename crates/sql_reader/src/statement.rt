@@ -88,7 +88,11 @@ fn whole_script(alloc: Global, tokens: &mut Tokens<'_>) -> Result<Statements, Fa
     ensures { Gives (to_end (reading.run_script tokens.old)) result tokens.new }
 {
     let all = statements(alloc, tokens)?;
-    if tokens.is_empty() { Ok(all) } else { Err(Fault::Refused) }
+    if tokens.is_empty() {
+        Ok(all)
+    } else {
+        Err(Fault::Refused)
+    }
 }
 
 // The expression that all the tokens are.
@@ -96,11 +100,19 @@ fn whole_expression(alloc: Global, tokens: &mut Tokens<'_>) -> Result<Expr, Faul
     ensures { Gives (to_end (reading.run_expression tokens.old)) result tokens.new }
 {
     let found = expression(alloc, tokens)?;
-    if tokens.is_empty() { Ok(found) } else { Err(Fault::Refused) }
+    if tokens.is_empty() {
+        Ok(found)
+    } else {
+        Err(Fault::Refused)
+    }
 }
 
 // The statements of a script, which are all of its tokens. It has `end` bytes.
-pub(crate) fn script_of(alloc: Global, tokens: &[Token], end: usize) -> Result<Statements, ScriptFault>
+pub(crate) fn script_of(
+    alloc: Global,
+    tokens: &[Token],
+    end: usize,
+) -> Result<Statements, ScriptFault>
     ensures found { IfOk result (λ all. grammar.script.reads tokens.now all []) }
     ensures only { (all : List Stmt) → grammar.script.reads tokens.now all [] → IsRead result all }
     ensures place { (at : ℕ) → result ≡ Err (ScriptFault.BadScript at) → IsPlace grammar.script end tokens.now at }
@@ -116,7 +128,11 @@ pub(crate) fn script_of(alloc: Global, tokens: &[Token], end: usize) -> Result<S
 }
 
 // The expression that all the tokens are. It has `end` bytes.
-pub(crate) fn expression_of(alloc: Global, tokens: &[Token], end: usize) -> Result<Expr, ScriptFault>
+pub(crate) fn expression_of(
+    alloc: Global,
+    tokens: &[Token],
+    end: usize,
+) -> Result<Expr, ScriptFault>
     ensures found { IfOk result (λ e. grammar.expression.reads tokens.now e []) }
     ensures only { (e : Expr) → grammar.expression.reads tokens.now e [] → IsRead result e }
     ensures place { (at : ℕ) → result ≡ Err (ScriptFault.BadScript at) → IsPlace grammar.expression end tokens.now at }

@@ -36,10 +36,16 @@ const TREES: [(&[u8], &[u8]); 48] = [
     (b"-a.b", b"- minus[column a.b]"),
     (b"1 - -2", b"- minus[whole 1;- minus[whole 2]]"),
     // Chains, from the left, by level.
-    (b"a * b % c DIV d", b"DIV divide[% remainder[* times[column a;column b];column c];column d]"),
+    (
+        b"a * b % c DIV d",
+        b"DIV divide[% remainder[* times[column a;column b];column c];column d]",
+    ),
     (b"a + b * c", b"+ plus[column a;* times[column b;column c]]"),
     (b"a - b + c", b"+ plus[- minus[column a;column b];column c]"),
-    (b"a || b + c || d", b"|| concat[|| concat[column a;+ plus[column b;column c]];column d]"),
+    (
+        b"a || b + c || d",
+        b"|| concat[|| concat[column a;+ plus[column b;column c]];column d]",
+    ),
     // Comparisons.
     (b"a = b", b"= equal[column a;column b]"),
     (b"a <> b", b"<> not equal[column a;column b]"),
@@ -48,19 +54,40 @@ const TREES: [(&[u8], &[u8]); 48] = [
     (b"a <= b", b"<= at most[column a;column b]"),
     (b"a > b", b"> greater[column a;column b]"),
     (b"a >= b", b">= at least[column a;column b]"),
-    (b"a <=> b || c", b"<=> same[column a;|| concat[column b;column c]]"),
+    (
+        b"a <=> b || c",
+        b"<=> same[column a;|| concat[column b;column c]]",
+    ),
     // Tests.
     (b"a IS NULL", b"IS NULL null[column a]"),
     (b"a is not true", b"is not true not true[column a]"),
     (b"a IS FALSE", b"IS FALSE false[column a]"),
-    (b"a BETWEEN b AND c AND d", b"AND and[BETWEEN between[column a;column b;column c];column d]"),
-    (b"a NOT BETWEEN b AND c", b"NOT BETWEEN not between[column a;column b;column c]"),
+    (
+        b"a BETWEEN b AND c AND d",
+        b"AND and[BETWEEN between[column a;column b;column c];column d]",
+    ),
+    (
+        b"a NOT BETWEEN b AND c",
+        b"NOT BETWEEN not between[column a;column b;column c]",
+    ),
     (b"a IN (1)", b"IN in[column a;whole 1;]"),
-    (b"a NOT IN (1, b OR c)", b"NOT IN not in[column a;whole 1;OR or[column b;column c];]"),
+    (
+        b"a NOT IN (1, b OR c)",
+        b"NOT IN not in[column a;whole 1;OR or[column b;column c];]",
+    ),
     // AND, OR and NOT: AND binds tighter.
-    (b"a OR b AND c", b"OR or[column a;AND and[column b;column c]]"),
-    (b"a AND b OR c", b"OR or[AND and[column a;column b];column c]"),
-    (b"NOT NOT a = b", b"NOT not[NOT not[= equal[column a;column b]]]"),
+    (
+        b"a OR b AND c",
+        b"OR or[column a;AND and[column b;column c]]",
+    ),
+    (
+        b"a AND b OR c",
+        b"OR or[AND and[column a;column b];column c]",
+    ),
+    (
+        b"NOT NOT a = b",
+        b"NOT not[NOT not[= equal[column a;column b]]]",
+    ),
     (b"NOT a AND b", b"AND and[NOT not[column a];column b]"),
     // CASE and CAST.
     (
@@ -259,7 +286,11 @@ fn show_all(bytes: &[u8], exprs: &[Expr], out: &mut Vec<u8>) -> Result<(), Alloc
 }
 
 #[cycle(show)]
-fn show_branches(bytes: &[u8], branches: &[(Expr, Expr)], out: &mut Vec<u8>) -> Result<(), AllocError> {
+fn show_branches(
+    bytes: &[u8],
+    branches: &[(Expr, Expr)],
+    out: &mut Vec<u8>,
+) -> Result<(), AllocError> {
     for (condition, value) in branches {
         show(bytes, condition, out)?;
         out.extend_from_slice(b":")?;
@@ -270,7 +301,13 @@ fn show_branches(bytes: &[u8], branches: &[(Expr, Expr)], out: &mut Vec<u8>) -> 
 }
 
 #[cycle(show)]
-fn show_unary(bytes: &[u8], place: Span, name: &[u8], expr: &Expr, out: &mut Vec<u8>) -> Result<(), AllocError> {
+fn show_unary(
+    bytes: &[u8],
+    place: Span,
+    name: &[u8],
+    expr: &Expr,
+    out: &mut Vec<u8>,
+) -> Result<(), AllocError> {
     push(bytes, place, out)?;
     out.extend_from_slice(name)?;
     show(bytes, expr, out)?;
@@ -389,7 +426,13 @@ fn expressions_have_their_trees(rt: HostRuntime) -> Result<(), Fail> {
     for (bytes, tree) in TREES {
         let mut shown = Vec::new(alloc);
         if let Ok(expr) = read_expr(alloc, bytes) {
-            assert_eq!(rt; span_of(&expr), Span { start: 0, end: bytes.len() });
+            assert_eq!(rt;
+                span_of(&expr),
+                Span {
+                    start: 0,
+                    end: bytes.len()
+                }
+            );
             show(bytes, &expr, &mut shown)?;
         }
         assert_eq!(rt; shown.as_slice(), tree);

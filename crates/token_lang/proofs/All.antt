@@ -1,9 +1,9 @@
 -- The laws of each way to build a language, all at once. `Leads`: each sentence has a token. `Meets`: it may have none.
-use Rattle.std.proofs.Common.{◌≡◌, ℕ, Bool, true, false, List, [], ◌∷◌, length, Ok, Err, refl}
-use Rattle.std.specs.Prelude.{◌||◌, Option, Some, None, fold}
+use Rattle.std.proofs.Common.{◌≡◌, ℕ, Bool, false, List, [], ◌∷◌, length, Ok, Err, refl}
+use Rattle.std.specs.Prelude.{◌||◌, Option, Some, None}
 use Rattle.token_lang.specs.Lang.{Lang, one, nothing, never, both, either, valued, many, at_most}
 use Rattle.token_lang.specs.Run.{Reader, sees, made, run_one, run_both, run_either, run_many, run_at_most}
-use Rattle.token_lang.specs.Exact.{Exact, Solid, Apart}
+use Rattle.token_lang.specs.Exact.{Exact, Apart}
 use Rattle.token_lang.specs.Meets.{Plain, Meets, Leads}
 use Rattle.token_lang.proofs.Base.{one_exact, one_solid, valued_exact, valued_solid, nothing_exact, never_exact, never_solid}
 use Rattle.token_lang.proofs.Both.{both_exact, both_maybe_exact, both_solid, late_exact, late_solid, either_exact, either_maybe_exact, either_solid, weaker, wider, sees_twice, sees_alone, sees_end}

@@ -1,8 +1,8 @@
-use Rattle.std.proofs.Common.{◌≡◌, ℕ, suc, ◌+◌, ◌≤◌, ◌<◌, Bool, true, false, List, [], ◌∷◌, ◌++◌, ◌⊎◌, length, Result, Ok, Err, refl, sym, ap, subst, ◌∙◌, arith, inl, inr}
+use Rattle.std.proofs.Common.{◌≡◌, suc, ◌≤◌, Bool, true, false, List, [], ◌∷◌, ◌⊎◌, length, Ok, Err, refl, arith, inl, inr}
 use Rattle.std.specs.Prelude.{if◌then◌else◌}
 use Rattle.token_lang.specs.Lang.{Lang, one, nothing, never, valued}
-use Rattle.token_lang.specs.Run.{Outcome, Reader, sees, left, and_then, made, run_one}
-use Rattle.token_lang.specs.Exact.{Fits, Apart, Exact, Solid}
+use Rattle.token_lang.specs.Run.{Outcome, Reader, sees, left, made, run_one}
+use Rattle.token_lang.specs.Exact.{Fits, Exact, Solid}
 
 -- ---- one token
 

@@ -1,5 +1,5 @@
 -- One after the other, and one or the other.
-use Rattle.std.proofs.Common.{◌≡◌, ℕ, suc, ◌+◌, ◌≤◌, ◌<◌, Bool, true, false, List, [], ◌∷◌, ◌++◌, ◌⊎◌, length, Result, Ok, Err, refl, sym, ap, subst, ◌∙◌, arith, inl, inr}
+use Rattle.std.proofs.Common.{◌≡◌, ◌≤◌, ◌<◌, Bool, true, false, List, [], ◌∷◌, ◌⊎◌, length, Ok, Err, refl, subst, ◌∙◌, arith, inl, inr}
 use Rattle.std.specs.Prelude.{if◌then◌else◌, ◌||◌}
 use Rattle.token_lang.specs.Lang.{Lang, both, either}
 use Rattle.token_lang.specs.Run.{Outcome, Reader, sees, left, and_then, made, run_both, run_either}
@@ -70,8 +70,8 @@ module _ {T A B : Type 0} {D : Lang T A} {E : Lang T B} {f : Reader T A} {g : Re
   both_longest apart ts rest (inl d) = let a = left_both (f ts) in let b = x.longest ts rest d in omega arith
   both_longest apart ts rest (inr (a, mid, d, e)) =
       elim (y.starts mid rest e) as (λ _. left (run_both f g ts) ≤ length rest) [
-        inl h ↦ rw (x.only ts a mid d (apart_sees first' goes apart mid h), left_made) (y.longest mid rest e)
-      | inr h ↦ let b = left_both (f ts) in let c = x.longest ts rest (subst (λ m. D.begins ts m) h (x.whole ts a mid d)) in omega arith
+        | inl h ↦ rw (x.only ts a mid d (apart_sees first' goes apart mid h), left_made) (y.longest mid rest e)
+        | inr h ↦ let b = left_both (f ts) in let c = x.longest ts rest (subst (λ m. D.begins ts m) h (x.whole ts a mid d)) in omega arith
       ]
 
   both_starts : Solid D first → (ts rest : List T) → (both D E).begins ts rest → (sees first ts ≡ true) ⊎ (ts ≡ rest)
@@ -111,9 +111,9 @@ module _ {T A B : Type 0} {D : Lang T A} {E : Lang T B} {f : Reader T A} {g : Re
   late_starts : (ts rest : List T) → (both D E).begins ts rest → (sees (λ t. first t || first' t) ts ≡ true) ⊎ (ts ≡ rest)
   late_starts ts rest (inl d) = elim (x.starts ts rest d) as (λ _. (sees (λ t. first t || first' t) ts ≡ true) ⊎ (ts ≡ rest)) [ inl h ↦ inl (sees_left first first' ts h) | inr h ↦ inr h ]
   late_starts ts rest (inr (a, mid, d, e)) = elim (x.starts ts mid (x.whole ts a mid d)) as (λ _. (sees (λ t. first t || first' t) ts ≡ true) ⊎ (ts ≡ rest)) [
-      inl h ↦ inl (sees_left first first' ts h)
+    | inl h ↦ inl (sees_left first first' ts h)
     | inr m ↦ elim (y.starts mid rest e) as (λ _. (sees (λ t. first t || first' t) ts ≡ true) ⊎ (ts ≡ rest)) [ inl h ↦ inl (sees_right first first' ts (rw m h)) | inr h ↦ inr (m ∙ h) ]
-    ]
+  ]
 
   pub late_exact : Solid E first' → Apart first' goes → Exact (both D E) (run_both f g) (λ t. first t || first' t) goes'
   late_exact se apart = record {
@@ -126,11 +126,13 @@ module _ {T A B : Type 0} {D : Lang T A} {E : Lang T B} {f : Reader T A} {g : Re
   }
 
   pub late_solid : Solid E first' → Solid (both D E) (λ t. first t || first' t)
-  late_solid se = record { some = λ ts ab rest r.
-      let h = se.some r.0 ab.1 rest r.2 in
-      let c = x.shorter ts r.0 (x.whole ts ab.0 r.0 r.1) in
-      let s : sees (λ t. first t || first' t) ts ≡ true = elim (x.starts ts r.0 (x.whole ts ab.0 r.0 r.1)) as (λ _. sees (λ t. first t || first' t) ts ≡ true) [ inl k ↦ sees_left first first' ts k | inr k ↦ sees_right first first' ts (rw k h.0) ] in
-      (s, omega arith) }
+  late_solid se = record {
+    some = λ ts ab rest r.
+        let h = se.some r.0 ab.1 rest r.2 in
+        let c = x.shorter ts r.0 (x.whole ts ab.0 r.0 r.1) in
+        let s : sees (λ t. first t || first' t) ts ≡ true = elim (x.starts ts r.0 (x.whole ts ab.0 r.0 r.1)) as (λ _. sees (λ t. first t || first' t) ts ≡ true) [ inl k ↦ sees_left first first' ts k | inr k ↦ sees_right first first' ts (rw k h.0) ] in
+        (s, omega arith);
+  }
 
 -- ---- one or the other, by the first token
 
@@ -152,13 +154,13 @@ module _ {T A : Type 0} {D E : Lang T A} {f g : Reader T A} {first goes first' g
 
   either_longest : Apart first' first → (ts rest : List T) → (either D E).begins ts rest → left (run_either first f g ts) ≤ length rest
   either_longest apart ts rest (inl d) = elim (x.starts ts rest d) as (λ _. left (run_either first f g ts) ≤ length rest) [
-      inl h ↦ rw (take_first ts h) (x.longest ts rest d)
+    | inl h ↦ rw (take_first ts h) (x.longest ts rest d)
     | inr h ↦ subst (λ r. left (run_either first f g ts) ≤ length r) h (left_either_by ts (sees first ts))
-    ]
+  ]
   either_longest apart ts rest (inr d) = elim (y.starts ts rest d) as (λ _. left (run_either first f g ts) ≤ length rest) [
-      inl h ↦ rw (take_second ts (apart_sees first' first apart ts h)) (y.longest ts rest d)
+    | inl h ↦ rw (take_second ts (apart_sees first' first apart ts h)) (y.longest ts rest d)
     | inr h ↦ subst (λ r. left (run_either first f g ts) ≤ length r) h (left_either_by ts (sees first ts))
-    ]
+  ]
 
   either_starts : (ts rest : List T) → (either D E).begins ts rest → (sees (λ t. first t || first' t) ts ≡ true) ⊎ (ts ≡ rest)
   either_starts ts rest (inl d) = elim (x.starts ts rest d) as (λ _. (sees (λ t. first t || first' t) ts ≡ true) ⊎ (ts ≡ rest)) [ inl h ↦ inl (sees_left first first' ts h) | inr h ↦ inr h ]

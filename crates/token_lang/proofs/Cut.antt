@@ -1,5 +1,5 @@
 -- Each part at the front of a sentence is a beginning.
-use Rattle.std.proofs.Common.{◌≡◌, ℕ, zero, suc, ◌+◌, ◌-◌, ◌≤◌, ◌<◌, Bool, true, List, [], ◌∷◌, ◌++◌, ◌⊎◌, length, drop, refl, sym, ap, subst, ◌∙◌, inl, inr, arith, length-append}
+use Rattle.std.proofs.Common.{◌≡◌, ℕ, zero, suc, ◌-◌, ◌≤◌, ◌<◌, Bool, List, [], ◌∷◌, ◌++◌, ◌⊎◌, length, drop, refl, sym, ap, subst, ◌∙◌, inl, inr, arith, length-append}
 use Rattle.std.proofs.lemmas.List.{drop-append-le}
 use Rattle.token_lang.specs.Lang.{Lang, one, nothing, never, both, either, valued, many, reads_all, at_most, any_of}
 use Rattle.token_lang.specs.Exact.{Local, Cuts}
@@ -50,16 +50,16 @@ inner ts w mid m e h room =
 module _ {T A B : Type 0} {D : Lang T A} {E : Lang T B} (x : Cuts D) (y : Cuts E) (l : Local D) where
   both_front : (ts w : List T) (ab : A × B) (mid rest : List T) → ts ≡ w ++ mid → (both D E).reads ts ab rest → length rest ≤ length mid → (both D E).begins ts mid
   both_front ts w ab mid rest e (m, d, r) room = elim (le_or_lt (length m) (length mid)) as (λ _. (both D E).begins ts mid) [
-      inl h ↦ inl (x.front ts w ab.0 mid m e d h)
+    | inl h ↦ inl (x.front ts w ab.0 mid m e d h)
     | inr h ↦ let v = inner ts w mid m e (is_end l ts ab.0 m d) h in inr (ab.0, m, d, y.front m v.0 ab.1 mid rest v.1 r room)
-    ]
+  ]
 
   both_front_begins : (ts w mid rest : List T) → ts ≡ w ++ mid → (both D E).begins ts rest → length rest ≤ length mid → (both D E).begins ts mid
   both_front_begins ts w mid rest e (inl b) room = inl (x.front_begins ts w mid rest e b room)
   both_front_begins ts w mid rest e (inr (a, m, d, b)) room = elim (le_or_lt (length m) (length mid)) as (λ _. (both D E).begins ts mid) [
-      inl h ↦ inl (x.front ts w a mid m e d h)
+    | inl h ↦ inl (x.front ts w a mid m e d h)
     | inr h ↦ let v = inner ts w mid m e (is_end l ts a m d) h in inr (a, m, d, y.front_begins m v.0 mid rest v.1 b room)
-    ]
+  ]
 
   pub both_cuts : Cuts (both D E)
   both_cuts = record { front = both_front; front_begins = both_front_begins }
@@ -83,9 +83,9 @@ module _ {T A : Type 0} {D : Lang T A} (x : Cuts D) (l : Local D) where
   many_front : (all : List A) (ts w mid rest : List T) → ts ≡ w ++ mid → reads_all D.reads ts all rest → length rest ≤ length mid → (many D).begins ts mid
   many_front [] ts w mid rest e h room = ([], ts, refl, inl (none_front ts w mid rest e h room))
   many_front (a ∷ all) ts w mid rest e (m, d, r) room = elim (le_or_lt (length m) (length mid)) as (λ _. (many D).begins ts mid) [
-      inl h ↦ ([], ts, refl, inr (x.front ts w a mid m e d h))
+    | inl h ↦ ([], ts, refl, inr (x.front ts w a mid m e d h))
     | inr h ↦ let v = inner ts w mid m e (is_end l ts a m d) h in with_item ts a m mid d (many_front all m v.0 mid rest v.1 r room)
-    ]
+  ]
 
   end_front : (ts w m mid rest : List T) → ts ≡ w ++ mid → ts ≡ m → (m ≡ rest) ⊎ D.begins m rest → length rest ≤ length mid → (many D).begins ts mid
   end_front ts w m mid rest e h (inl k) room = ([], ts, refl, inl (none_front ts w mid rest e (h ∙ k) room))
@@ -94,9 +94,9 @@ module _ {T A : Type 0} {D : Lang T A} (x : Cuts D) (l : Local D) where
   all_front : (all : List A) (ts w m mid rest : List T) → ts ≡ w ++ mid → reads_all D.reads ts all m → (m ≡ rest) ⊎ D.begins m rest → length rest ≤ length mid → (many D).begins ts mid
   all_front [] ts w m mid rest e h z room = end_front ts w m mid rest e h z room
   all_front (a ∷ all) ts w m mid rest e (n, d, r) z room = elim (le_or_lt (length n) (length mid)) as (λ _. (many D).begins ts mid) [
-      inl h ↦ ([], ts, refl, inr (x.front ts w a mid n e d h))
+    | inl h ↦ ([], ts, refl, inr (x.front ts w a mid n e d h))
     | inr h ↦ let v = inner ts w mid n e (is_end l ts a n d) h in with_item ts a n mid d (all_front all n v.0 m mid rest v.1 r z room)
-    ]
+  ]
 
   pub many_cuts : Cuts (many D)
   many_cuts = record { front = λ ts w all mid rest. many_front all ts w mid rest; front_begins = λ ts w mid rest e b room. all_front b.0 ts w b.1 mid rest e b.2 b.3 room }

@@ -1,7 +1,7 @@
 -- A sentence of all the tokens, or the place where the longest beginning ends.
-use Rattle.std.proofs.Common.{◌≡◌, ℕ, ◌≤◌, Bool, true, false, List, [], ◌∷◌, length, drop, arith, ◌-◌, Result, Ok, Err, refl, sym, subst, ◌∙◌, ap}
+use Rattle.std.proofs.Common.{◌≡◌, Bool, List, [], ◌∷◌, length, drop, arith, ◌-◌, Ok, Err, refl, sym, subst, ◌∙◌, ap}
 use Rattle.token_lang.specs.Lang.{Lang}
-use Rattle.token_lang.specs.Run.{Outcome, Reader, sees, left, end_at, to_end}
+use Rattle.token_lang.specs.Run.{Outcome, Reader, left, end_at, to_end}
 use Rattle.token_lang.specs.Exact.{Fits, Exact, Local, IsLongest}
 use Rattle.token_lang.proofs.Place.{is_end_begins}
 

@@ -1,5 +1,5 @@
 -- Beginnings and fronts: what begins a sentence is the front of one, and each front of one begins it.
-use Rattle.std.proofs.Common.{◌≡◌, ◌≤◌, ℕ, zero, suc, List, [], ◌∷◌, ◌++◌, length, refl, subst, ap, arith, length-append}
+use Rattle.std.proofs.Common.{◌≡◌, List, [], ◌∷◌, ◌++◌, length, refl, subst, ap, arith, length-append}
 use Rattle.token_lang.specs.Lang.{Lang}
 use Rattle.token_lang.specs.Exact.{IsLongest}
 use Rattle.token_lang.specs.Meets.{Plain}

@@ -1,5 +1,5 @@
 -- Beginnings go on to sentences.
-use Rattle.std.proofs.Common.{◌≡◌, ℕ, zero, suc, ◌+◌, ◌≤◌, Bool, true, List, [], ◌∷◌, ◌++◌, ◌⊎◌, length, refl, sym, ap, subst, ◌∙◌, inl, inr, append_assoc, append-nil}
+use Rattle.std.proofs.Common.{◌≡◌, ℕ, suc, Bool, true, List, [], ◌∷◌, ◌++◌, refl, sym, ap, subst, ◌∙◌, inl, inr, append_assoc, append-nil}
 use Rattle.token_lang.specs.Lang.{Lang, one, nothing, never, both, either, valued, many, reads_all, at_most, any_of}
 use Rattle.token_lang.specs.Exact.{Local, Grows}
 

@@ -1,8 +1,8 @@
 -- A loop over items, turn by turn.
-use Rattle.std.proofs.Common.{◌≡◌, ℕ, zero, suc, ◌+◌, ◌≤◌, ◌<◌, Bool, true, false, List, [], ◌∷◌, ◌++◌, length, append_assoc, append-nil, Result, Ok, Err, refl, sym, ap, ◌∙◌, arith}
-use Rattle.std.specs.Prelude.{if◌then◌else◌, fold}
+use Rattle.std.proofs.Common.{◌≡◌, ℕ, zero, suc, ◌<◌, Bool, true, false, List, [], ◌∷◌, ◌++◌, length, append_assoc, append-nil, Ok, Err, refl, sym, ap, ◌∙◌, arith}
+use Rattle.std.specs.Prelude.{fold}
 use Rattle.token_lang.specs.Lang.{Lang}
-use Rattle.token_lang.specs.Run.{Outcome, Reader, sees, and_then, made, run_both, run_many, run_one, run_rest}
+use Rattle.token_lang.specs.Run.{Outcome, Reader, sees, made, run_both, run_many, run_rest}
 use Rattle.token_lang.specs.Exact.{Fits, Exact, Solid}
 use Rattle.token_lang.proofs.Many.{enough}
 

@@ -1,11 +1,11 @@
 -- Any number, one after another, and a limit on tokens.
-use Rattle.std.proofs.Common.{◌≡◌, ℕ, zero, suc, ◌+◌, ◌≤◌, ◌<◌, Bool, true, false, List, [], ◌∷◌, ◌++◌, ◌⊎◌, length, Result, Ok, Err, refl, sym, ap, subst, ◌∙◌, arith, inl, inr}
+use Rattle.std.proofs.Common.{◌≡◌, ℕ, zero, suc, ◌≤◌, ◌<◌, Bool, true, false, List, [], ◌∷◌, ◌⊎◌, length, Ok, Err, refl, sym, ap, subst, ◌∙◌, arith, inl, inr}
 use Rattle.std.specs.Prelude.{if◌then◌else◌, ◌||◌}
 use Rattle.token_lang.specs.Lang.{Lang, many, reads_all}
 use Rattle.token_lang.specs.Run.{Outcome, Reader, sees, left, and_then, made, run_many}
 use Rattle.token_lang.specs.Exact.{Fits, Apart, Exact, Solid}
 use Rattle.token_lang.proofs.Base.{left_made}
-use Rattle.token_lang.proofs.Both.{apart_sees, fits_shorter, sees_none}
+use Rattle.token_lang.proofs.Both.{apart_sees, sees_none}
 
 module _ {T A : Type 0} (D : Lang T A) (f : Reader T A) (first goes : T → Bool) (x : Exact D f first goes) (sd : Solid D first) where
   turn : ℕ → List T → Outcome T (List A)
@@ -97,11 +97,11 @@ module _ {T A : Type 0} (D : Lang T A) (f : Reader T A) (first goes : T → Bool
   ends_longest (a ∷ all) (suc n) ts mid rest apart room (m, d, r) end =
       let h = sd.some ts a m d in
       elim (after_item all m mid rest r end) as (λ _. left (run_many first f (suc n) ts) ≤ length rest) [
-        inl s ↦ rw (one_turn n ts h.0, x.only ts a m d (apart_sees first goes apart m s), left_made) (ends_longest all n m mid rest apart (omega arith) r end)
-      | inr e ↦
-          let k = left_turn n (f ts) in
-          let b = x.longest ts rest (subst (λ u. D.begins ts u) e (x.whole ts a m d)) in
-          rw (one_turn n ts h.0) (omega arith)
+        | inl s ↦ rw (one_turn n ts h.0, x.only ts a m d (apart_sees first goes apart m s), left_made) (ends_longest all n m mid rest apart (omega arith) r end)
+        | inr e ↦
+            let k = left_turn n (f ts) in
+            let b = x.longest ts rest (subst (λ u. D.begins ts u) e (x.whole ts a m d)) in
+            rw (one_turn n ts h.0) (omega arith)
       ]
 
   ends : (mid rest : List T) → (mid ≡ rest) ⊎ D.begins mid rest → Ends mid rest

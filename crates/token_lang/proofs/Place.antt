@@ -1,10 +1,10 @@
 -- Neither a sentence nor a beginning depends on what stands behind it; a limit on tokens.
-use Rattle.std.proofs.Common.{◌≡◌, ℕ, zero, suc, ◌+◌, ◌-◌, ◌≤◌, ◌<◌, Bool, true, false, List, [], ◌∷◌, ◌++◌, ◌⊎◌, length, take, drop, Result, Ok, Err, refl, sym, ap, subst, ◌∙◌, arith, inl, inr, length-append, append_assoc, length-drop, length-take}
+use Rattle.std.proofs.Common.{◌≡◌, ℕ, ◌+◌, ◌-◌, ◌≤◌, Bool, false, List, [], ◌∷◌, ◌++◌, length, take, drop, Ok, Err, refl, sym, ap, subst, ◌∙◌, arith, inl, inr, length-append, length-drop, length-take}
 use Rattle.std.proofs.lemmas.List.{take-append-drop, drop-append-le}
 use Rattle.token_lang.specs.Lang.{Lang, one, nothing, never, both, either, valued, many, reads_all, at_most}
 use Rattle.token_lang.specs.Run.{Outcome, Reader, sees, left, before, run_at_most}
 use Rattle.token_lang.proofs.Both.{fits_shorter}
-use Rattle.token_lang.specs.Exact.{Fits, Apart, Exact, Solid, Local}
+use Rattle.token_lang.specs.Exact.{Fits, Exact, Solid, Local}
 
 nil_less : {T : Type 0} (ts s rest w : List T) → ts ≡ s ++ w → ts ≡ rest → (r : List T) × (rest ≡ r ++ w) × (s ≡ r)
 nil_less ts s rest w e h = (s, sym h ∙ e, refl)

@@ -1,8 +1,7 @@
 -- A grammar with a common front, and the same one with the front taken out.
-use Rattle.std.proofs.Common.{◌≡◌, Bool, true, false, List, [], ◌∷◌, ◌⊎◌, length, Result, Ok, Err, refl, sym, ap, subst, ◌∙◌, inl, inr}
-use Rattle.std.specs.Prelude.{◌||◌}
-use Rattle.token_lang.specs.Lang.{Lang, one, both, either, valued}
-use Rattle.token_lang.specs.Run.{Outcome, Reader, sees}
+use Rattle.std.proofs.Common.{Bool, List, Ok, Err, inl, inr}
+use Rattle.token_lang.specs.Lang.{Lang, both, either, valued}
+use Rattle.token_lang.specs.Run.{Outcome, Reader}
 use Rattle.token_lang.specs.Exact.{Fits, Exact, Solid, Same}
 
 fits_same : {T A : Type 0} (L L' : Lang T A) → Same L L' → (ts : List T) (r : Outcome T A) → Fits L ts r → Fits L' ts r

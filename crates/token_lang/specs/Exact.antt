@@ -1,5 +1,5 @@
 -- What is asked of a reader of a language, and of the language itself.
-use Rattle.std.specs.Prelude.{◌≡◌, ℕ, ◌≤◌, ◌<◌, Bool, true, false, List, [], ◌∷◌, ◌++◌, ◌⊎◌, length, Result, Ok, Err}
+use Rattle.std.specs.Prelude.{◌≡◌, ◌≤◌, ◌<◌, Bool, true, false, List, [], ◌++◌, ◌⊎◌, length, Ok, Err}
 use Rattle.token_lang.specs.Lang.{Lang}
 use Rattle.token_lang.specs.Run.{Outcome, Reader, sees, left}
 

@@ -1,9 +1,8 @@
-use Rattle.std.proofs.Common.{◌≡◌, ◌∙◌, sym, rules, arith, false, true}
-use Rattle.token_lang.specs.Run.{sees}
+use Rattle.std.proofs.Common.{◌∙◌, sym, arith}
 use Rattle.token_lang.proofs.Loops.{collects_on, collects_shorter}
-use Rattle.sql_tree.specs.Kinds.{is, any, compares}
-use Rattle.sql_tree.specs.declared.token.Kind.TheVariants.{Comma, When, Is}
-use Rattle.sql_grammar.specs.Reading.{run_inside, run_next, run_branch, first_predicate}
+use Rattle.sql_tree.specs.Kinds.{is}
+use Rattle.sql_tree.specs.declared.token.Kind.TheVariants.{Comma, When}
+use Rattle.sql_grammar.specs.Reading.{run_inside, run_next, run_branch}
 use Rattle.sql_grammar.proofs.Readers.{inside_leads, next_leads, branch_leads}
 use Rattle.sql_grammar.proofs.Turns.{inside_none, inside_some, chain_smaller, chain_goes_on, list_begins, ranges, tests}
 use Rattle.sql_reader.specs.Classes.{operators}
@@ -27,7 +26,7 @@ chain-items-preserved t c =
 pub list-items-init : goal.list-items-init
 list-items-init t c =
     rw (c.in_ok-push.ensures.ok, c.new-all.ensures)
-      (list_begins (run_inside c.args.depth) (is Comma) (run_next (run_inside c.args.depth)) c.args.tokens.now c.inside.new.tokens c.in_ok-inside.field-0 c.in_ok-inside.ensures)
+    (list_begins (run_inside c.args.depth) (is Comma) (run_next (run_inside c.args.depth)) c.args.tokens.now c.inside.new.tokens c.in_ok-inside.field-0 c.in_ok-inside.ensures)
 
 pub list-items-smaller : goal.list-items-smaller
 list-items-smaller t c =
@@ -42,7 +41,7 @@ list-items-preserved t c =
 pub branches-items-init : goal.branches-items-init
 branches-items-init t c =
     rw (c.in_ok-push.ensures.ok, c.new-all.ensures)
-      (list_begins (run_branch c.args.depth (run_inside c.args.depth)) (is When) (run_branch c.args.depth (run_inside c.args.depth)) c.args.tokens.now c.branch-alloc.new.tokens c.in_ok-branch.field-0 c.in_ok-branch.ensures)
+    (list_begins (run_branch c.args.depth (run_inside c.args.depth)) (is When) (run_branch c.args.depth (run_inside c.args.depth)) c.args.tokens.now c.branch-alloc.new.tokens c.in_ok-branch.field-0 c.in_ok-branch.ensures)
 
 pub branches-items-smaller : goal.branches-items-smaller
 branches-items-smaller t c =

@@ -1,4 +1,4 @@
-use Rattle.std.proofs.Common.{◌≡◌, ◌∙◌, sym}
+use Rattle.std.proofs.Common.{◌∙◌, sym}
 use Rattle.token_lang.proofs.End.{end_found, end_only, end_place}
 use Rattle.sql_grammar.proofs.Readers.{script_meets}
 use Rattle.sql_reader.proofs.Cut.{same_value, same_place}
