@@ -1,10 +1,15 @@
 // Laws of the grammar: what `begins` and the place of a fault come to.
-ghost use Rattle.std.specs.Prelude.{◌≡◌, List, [], ◌++◌};
-ghost use Rattle.token_lang.specs.Exact.{IsLongest};
+ghost use Rattle.std.specs.Prelude.{◌≡◌, ℕ, List, [], ◌++◌};
+ghost use Rattle.token_lang.specs.Lang.{one, both, either, valued};
+ghost use Rattle.token_lang.specs.Exact.{IsLongest, Same};
 ghost use Rattle.sql_grammar.specs.Grammar as grammar;
+ghost use Rattle.sql_grammar.specs.Tree as tree;
+ghost use Rattle.sql_tree.specs.Kinds.{any, names_alone, dates};
 ghost use Rattle.sql_tree.specs.declared.token.Token.{Token};
 ghost use Rattle.sql_tree.specs.declared.tree.Expr.{Expr};
 ghost use Rattle.sql_tree.specs.declared.tree.Stmt.{Stmt};
+
+use sql_tree::Kind;
 
 /// A law: a script within the limits of its expressions is a script with the same statements, and
 /// an expression within the limits is the same expression.
@@ -50,4 +55,13 @@ pub fn places_are_first()
 pub fn places_are_one()
     ensures scripts { (tokens rest other : List Token) → IsLongest grammar.script tokens rest → IsLongest grammar.script tokens other → rest ≡ other }
     ensures expressions { (tokens rest other : List Token) → IsLongest grammar.expression tokens rest → IsLongest grammar.expression tokens other → rest ≡ other }
+{}
+
+/// A law: where the grammar takes out a common front, it derives what it does with the front written
+/// twice. A name is a column, `name ["." name]`, or a call, `name "(" .. ")"`; DATE and TIMESTAMP
+/// stand before a text, or are names; a NOT stands before BETWEEN or before IN.
+pub fn common_fronts()
+    ensures names { (depth : ℕ) → Same (grammar.named depth (grammar.inside depth)) (either (valued tree.named (both (one (any names_alone)) (grammar.maybe (valued tree.qualified (both (grammar.token Kind.Dot) grammar.name))))) (valued (λ p. tree.named (p.0, Some p.1)) (both (one (any names_alone)) (grammar.arguments depth (grammar.inside depth))))) }
+    ensures dates { (depth : ℕ) → Same (grammar.dated depth (grammar.inside depth)) (either (valued tree.named (both (one (any dates)) (grammar.maybe (valued tree.dated grammar.text)))) (valued (λ p. tree.named (p.0, Some p.1)) (both (one (any dates)) (grammar.tail depth (grammar.inside depth))))) }
+    ensures ranges { (depth : ℕ) → Same (grammar.range depth (grammar.inside depth)) (either (valued tree.maybe_not (both (grammar.maybe (grammar.token Kind.Not)) (grammar.between depth (grammar.inside depth)))) (valued tree.maybe_not (both (grammar.maybe (grammar.token Kind.Not)) (grammar.among depth (grammar.inside depth))))) }
 {}

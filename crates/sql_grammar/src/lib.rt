@@ -6,5 +6,5 @@ mod laws;
 
 pub use laws::{
     beginnings_are_fronts_of_expressions, beginnings_are_fronts_of_scripts, beginnings_go_on,
-    fronts_begin, limits_only_refuse, places_are_first, places_are_one,
+    common_fronts, fronts_begin, limits_only_refuse, places_are_first, places_are_one,
 };

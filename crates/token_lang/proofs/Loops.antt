@@ -10,29 +10,6 @@ joins : {T A B : Type 0} (join : A → B → A) (so_far : A) (b : B) (r : Outcom
 joins join so_far b (Ok p) = refl
 joins join so_far b (Err rest) = refl
 
-begins_joining : {T A B : Type 0} (join : A → B → A) (a : A) (r : Outcome T (List B)) → made (λ (p : A × List B). fold join p.0 p.1) (made (λ all. (a, all)) r) ≡ made (λ all. fold join a all) r
-begins_joining join a (Ok p) = refl
-begins_joining join a (Err rest) = refl
-
--- the first item was read
-pub rest_begins : {T A B : Type 0} (join : A → B → A) (f : Reader T A) (first : T → Bool) (g : Reader T B) (ts : List T) (a : A) (us : List T) → f ts ≡ Ok (a, us)
-    → made (λ p. fold join p.0 p.1) (run_both f (λ vs. run_many first g (length vs) vs) ts) ≡ run_rest join first g a us
-rest_begins join f first g ts a us e = rw e (begins_joining join a (run_many first g (length us) us))
-
-stop_at : {T B : Type 0} (first : T → Bool) (g : Reader T B) (n : ℕ) (ts : List T) → sees first ts ≡ false → run_many first g n ts ≡ Ok ([], ts)
-stop_at first g zero ts h = refl
-stop_at first g (suc n) ts h = rw h refl
-
-pub rest_stops : {T A B : Type 0} (join : A → B → A) (first : T → Bool) (g : Reader T B) (a : A) (ts : List T) → sees first ts ≡ false → run_rest join first g a ts ≡ Ok (a, ts)
-rest_stops join first g a ts h = rw (stop_at first g (length ts) ts h) refl
-
-turn_err : {T B : Type 0} (first : T → Bool) (g : Reader T B) (ts mid : List T) → sees first ts ≡ true → g ts ≡ Err mid → run_many first g (length ts) ts ≡ Err mid
-turn_err first g [] mid h e = absurd (cc)
-turn_err first g (t ∷ ts) mid h e = rw (h, e) refl
-
-pub rest_err : {T A B : Type 0} (join : A → B → A) (first : T → Bool) (g : Reader T B) (a : A) (ts mid : List T) → sees first ts ≡ true → g ts ≡ Err mid → run_rest join first g a ts ≡ Err mid
-rest_err join first g a ts mid h e = rw (turn_err first g ts mid h e) refl
-
 module _ {T B : Type 0} {D : Lang T B} {g : Reader T B} {first goes : T → Bool} (x : Exact D g first goes) (s : Solid D first) where
   turn_ok : (ts : List T) (b : B) (mid : List T) → sees first ts ≡ true → g ts ≡ Ok (b, mid) → Fits D ts (g ts)
       → run_many first g (length ts) ts ≡ made (λ all. b ∷ all) (run_many first g (length mid) mid)
@@ -50,9 +27,6 @@ module _ {T B : Type 0} {D : Lang T B} {g : Reader T B} {first goes : T → Bool
 -- an operator and what stands behind it
 pub item_ok : {T A B : Type 0} (f : Reader T A) (g : Reader T B) (ts us vs : List T) (a : A) (b : B) → f ts ≡ Ok (a, us) → g us ≡ Ok (b, vs) → run_both f g ts ≡ Ok ((a, b), vs)
 item_ok f g ts us vs a b e e' = rw (e, e') refl
-
-pub item_err : {T A B : Type 0} (f : Reader T A) (g : Reader T B) (ts us vs : List T) (a : A) → f ts ≡ Ok (a, us) → g us ≡ Err vs → run_both f g ts ≡ Err vs
-item_err f g ts us vs a e e' = rw (e, e') refl
 
 -- ---- a loop that puts each item at the end of a list
 

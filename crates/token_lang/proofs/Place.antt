@@ -194,9 +194,6 @@ module _ {T A : Type 0} {D : Lang T A} (n : ℕ) (x : Local D) where
   left_before w (Ok p) = length-append p.1 w
   left_before w (Err rest) = length-append rest w
 
-  before_ok : (w : List T) (r : Outcome T A) (a : A) (rest : List T) → r ≡ Ok (a, rest) → before w r ≡ Ok (a, rest ++ w)
-  before_ok w r a rest e = rw e refl
-
   stops_front : (goes : T → Bool) (r w : List T) → sees goes (r ++ w) ≡ false → sees goes r ≡ false
   stops_front goes [] w h = refl
   stops_front goes (t ∷ r) w h = h

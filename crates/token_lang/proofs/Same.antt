@@ -1,68 +1,72 @@
 -- A grammar with a common front, and the same one with the front taken out.
-use Rattle.std.proofs.Common.{Bool, List, Ok, Err, inl, inr}
-use Rattle.token_lang.specs.Lang.{Lang, both, either, valued}
-use Rattle.token_lang.specs.Run.{Outcome, Reader}
-use Rattle.token_lang.specs.Exact.{Fits, Exact, Solid, Same}
+use Rattle.std.proofs.Common.{◌≡◌, List, [], ◌∷◌, ◌⊎◌, refl, ap, ◌∙◌, inl, inr}
+use Rattle.std.specs.Prelude.{Option, Some, None}
+use Rattle.token_lang.specs.Lang.{Lang, nothing, both, either, valued}
+use Rattle.token_lang.specs.Exact.{Same}
 
-fits_same : {T A : Type 0} (L L' : Lang T A) → Same L L' → (ts : List T) (r : Outcome T A) → Fits L ts r → Fits L' ts r
-fits_same L L' e ts (Ok p) h = e.reads_to ts p.0 p.1 h
-fits_same L L' e ts (Err rest) h = e.begins_to ts rest h
+-- D (E | F) is D E | D F
+module _ {T A B C : Type 0} (make : A × B → C) (D : Lang T A) (E F : Lang T B) where
+  abbrev out : Lang T C
+  out = valued make (both D (either E F))
 
-pub exact_same : {T A : Type 0} {L L' : Lang T A} {f : Reader T A} {first goes : T → Bool} → Same L L' → Exact L f first goes → Exact L' f first goes
-exact_same {L} {L'} {f} e x = record {
-  fits = λ ts. fits_same L L' e ts (f ts) (x.fits ts);
-  only = λ ts a rest r s. x.only ts a rest (e.reads_back ts a rest r) s;
-  longest = λ ts rest b. x.longest ts rest (e.begins_back ts rest b);
-  whole = λ ts a rest r. e.begins_to ts rest (x.whole ts a rest (e.reads_back ts a rest r));
-  starts = λ ts rest b. x.starts ts rest (e.begins_back ts rest b);
-  shorter = λ ts rest b. x.shorter ts rest (e.begins_back ts rest b);
-}
+  abbrev apart : Lang T C
+  apart = either (valued make (both D E)) (valued make (both D F))
 
-pub solid_same : {T A : Type 0} {L L' : Lang T A} {first : T → Bool} → Same L L' → Solid L first → Solid L' first
-solid_same e s = record { some = λ ts a rest r. s.some ts a rest (e.reads_back ts a rest r) }
+  reads_to : (ts : List T) (c : C) (rest : List T) → out.reads ts c rest → apart.reads ts c rest
+  reads_to ts c rest (p, (mid, d, inl e), h) = inl (p, (mid, d, e), h)
+  reads_to ts c rest (p, (mid, d, inr e), h) = inr (p, (mid, d, e), h)
 
-module _ {T A B : Type 0} (D : Lang T A) (E F : Lang T B) where
-  out_reads : (ts : List T) (p : A × B) (rest : List T) → (both D (either E F)).reads ts p rest → (either (both D E) (both D F)).reads ts p rest
-  out_reads ts p rest (mid, d, inl e) = inl (mid, d, e)
-  out_reads ts p rest (mid, d, inr e) = inr (mid, d, e)
+  reads_back : (ts : List T) (c : C) (rest : List T) → apart.reads ts c rest → out.reads ts c rest
+  reads_back ts c rest (inl (p, (mid, d, e), h)) = (p, (mid, d, inl e), h)
+  reads_back ts c rest (inr (p, (mid, d, e), h)) = (p, (mid, d, inr e), h)
 
-  in_reads : (ts : List T) (p : A × B) (rest : List T) → (either (both D E) (both D F)).reads ts p rest → (both D (either E F)).reads ts p rest
-  in_reads ts p rest (inl (mid, d, e)) = (mid, d, inl e)
-  in_reads ts p rest (inr (mid, d, e)) = (mid, d, inr e)
+  begins_to : (ts rest : List T) → out.begins ts rest → apart.begins ts rest
+  begins_to ts rest (inl b) = inl (inl b)
+  begins_to ts rest (inr (a, mid, d, inl e)) = inl (inr (a, mid, d, e))
+  begins_to ts rest (inr (a, mid, d, inr e)) = inr (inr (a, mid, d, e))
 
-  out_begins : (ts rest : List T) → (both D (either E F)).begins ts rest → (either (both D E) (both D F)).begins ts rest
-  out_begins ts rest (inl b) = inl (inl b)
-  out_begins ts rest (inr (a, mid, d, inl e)) = inl (inr (a, mid, d, e))
-  out_begins ts rest (inr (a, mid, d, inr e)) = inr (inr (a, mid, d, e))
+  begins_back : (ts rest : List T) → apart.begins ts rest → out.begins ts rest
+  begins_back ts rest (inl (inl b)) = inl b
+  begins_back ts rest (inl (inr (a, mid, d, e))) = inr (a, mid, d, inl e)
+  begins_back ts rest (inr (inl b)) = inl b
+  begins_back ts rest (inr (inr (a, mid, d, e))) = inr (a, mid, d, inr e)
 
-  in_begins : (ts rest : List T) → (either (both D E) (both D F)).begins ts rest → (both D (either E F)).begins ts rest
-  in_begins ts rest (inl (inl b)) = inl b
-  in_begins ts rest (inl (inr (a, mid, d, e))) = inr (a, mid, d, inl e)
-  in_begins ts rest (inr (inl b)) = inl b
-  in_begins ts rest (inr (inr (a, mid, d, e))) = inr (a, mid, d, inr e)
+  pub common_front : Same out apart
+  common_front = record { reads_to = reads_to; reads_back = reads_back; begins_to = begins_to; begins_back = begins_back }
 
-  -- the common front D, written once or twice
-  pub common_front : Same (both D (either E F)) (either (both D E) (both D F))
-  common_front = record { reads_to = out_reads; reads_back = in_reads; begins_to = out_begins; begins_back = in_begins }
+-- D [E | F] is D [E] | D F
+module _ {T A B C : Type 0} (make : A × Option B → C) (D : Lang T A) (E F : Lang T B) where
+  abbrev optional : Lang T B → Lang T (Option B)
+  optional L = either (valued Some L) (valued (λ _. None) nothing)
 
--- values through the parts
-module _ {T A B : Type 0} {D D' : Lang T A} (make : A → B) (e : Same D D') where
-  pub valued_same : Same (valued make D) (valued make D')
-  valued_same = record {
-    reads_to = λ ts b rest r. (r.0, e.reads_to ts r.0 rest r.1, r.2);
-    reads_back = λ ts b rest r. (r.0, e.reads_back ts r.0 rest r.1, r.2);
-    begins_to = e.begins_to;
-    begins_back = e.begins_back;
-  }
+  abbrev out_of : Lang T C
+  out_of = valued make (both D (optional (either E F)))
 
-module _ {T A B : Type 0} (make : A → B) (D E : Lang T A) where
-  apart_reads : (ts : List T) (b : B) (rest : List T) → (valued make (either D E)).reads ts b rest → (either (valued make D) (valued make E)).reads ts b rest
-  apart_reads ts b rest (a, inl d, e) = inl (a, d, e)
-  apart_reads ts b rest (a, inr d, e) = inr (a, d, e)
+  abbrev apart_of : Lang T C
+  apart_of = either (valued make (both D (optional E))) (valued (λ p. make (p.0, Some p.1)) (both D F))
 
-  joint_reads : (ts : List T) (b : B) (rest : List T) → (either (valued make D) (valued make E)).reads ts b rest → (valued make (either D E)).reads ts b rest
-  joint_reads ts b rest (inl (a, d, e)) = (a, inl d, e)
-  joint_reads ts b rest (inr (a, d, e)) = (a, inr d, e)
+  maybe_reads_to : (ts : List T) (c : C) (rest : List T) → out_of.reads ts c rest → apart_of.reads ts c rest
+  maybe_reads_to ts c rest (p, (mid, d, inl (b, inl e, k)), h) = inl (p, (mid, d, inl (b, e, k)), h)
+  maybe_reads_to ts c rest (p, (mid, d, inl (b, inr e, k)), h) = inr ((p.0, b), (mid, d, e), h ∙ ap (λ o. make (p.0, o)) k)
+  maybe_reads_to ts c rest (p, (mid, d, inr w), h) = inl (p, (mid, d, inr w), h)
 
-  pub valued_either : Same (valued make (either D E)) (either (valued make D) (valued make E))
-  valued_either = record { reads_to = apart_reads; reads_back = joint_reads; begins_to = λ ts rest b. b; begins_back = λ ts rest b. b }
+  maybe_reads_back : (ts : List T) (c : C) (rest : List T) → apart_of.reads ts c rest → out_of.reads ts c rest
+  maybe_reads_back ts c rest (inl (p, (mid, d, inl (b, e, k)), h)) = (p, (mid, d, inl (b, inl e, k)), h)
+  maybe_reads_back ts c rest (inl (p, (mid, d, inr w), h)) = (p, (mid, d, inr w), h)
+  maybe_reads_back ts c rest (inr (q, (mid, d, e), h)) = ((q.0, Some q.1), (mid, d, inl (q.1, inr e, refl)), h)
+
+  maybe_begins_to : (ts rest : List T) → out_of.begins ts rest → apart_of.begins ts rest
+  maybe_begins_to ts rest (inl b) = inl (inl b)
+  maybe_begins_to ts rest (inr (a, mid, d, inl (inl e))) = inl (inr (a, mid, d, inl e))
+  maybe_begins_to ts rest (inr (a, mid, d, inl (inr e))) = inr (inr (a, mid, d, e))
+  maybe_begins_to ts rest (inr (a, mid, d, inr w)) = inl (inr (a, mid, d, inr w))
+
+  maybe_begins_back : (ts rest : List T) → apart_of.begins ts rest → out_of.begins ts rest
+  maybe_begins_back ts rest (inl (inl b)) = inl b
+  maybe_begins_back ts rest (inl (inr (a, mid, d, inl e))) = inr (a, mid, d, inl (inl e))
+  maybe_begins_back ts rest (inl (inr (a, mid, d, inr w))) = inr (a, mid, d, inr w)
+  maybe_begins_back ts rest (inr (inl b)) = inl b
+  maybe_begins_back ts rest (inr (inr (a, mid, d, e))) = inr (a, mid, d, inl (inr e))
+
+  pub optional_front : Same out_of apart_of
+  optional_front = record { reads_to = maybe_reads_to; reads_back = maybe_reads_back; begins_to = maybe_begins_to; begins_back = maybe_begins_back }
