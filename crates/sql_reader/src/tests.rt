@@ -394,6 +394,15 @@ fn show(bytes: &[u8], expr: &Expr, out: &mut Vec<u8>) -> Result<(), AllocError> 
     }
 }
 
+/// How many bytes `show` writes of the expression.
+fn shown_len(alloc: Global, bytes: &[u8]) -> Result<usize, AllocError> {
+    let mut shown = Vec::new(alloc);
+    if let Ok(expr) = read_expr(alloc, bytes) {
+        show(bytes, &expr, &mut shown)?;
+    }
+    Ok(shown.len())
+}
+
 /// Where the bytes go wrong as an expression; their length, where they are one.
 fn expr_place(alloc: Global, bytes: &[u8]) -> Option<u64> {
     match read_expr(alloc, bytes) {
@@ -472,6 +481,7 @@ fn limits_are_exact(rt: HostRuntime) -> Result<(), Fail> {
     repeat(&mut nots, b"NOT ", 999)?;
     nots.extend_from_slice(b"a")?;
     assert_eq!(rt; expr_place(alloc, nots.as_slice()), Some(3997));
+    assert_eq!(rt; shown_len(alloc, nots.as_slice())?, 999 * 9 + 8);
     nots.extend_from_slice(b" + 1")?;
     assert_eq!(rt; expr_place(alloc, nots.as_slice()), Some(3998));
     let mut sums = Vec::from_slice(alloc, b"1")?;
