@@ -1,5 +1,4 @@
 pub mod Order
-pub mod Refusal
 pub mod Then
 pub mod Value
 pub mod Lanes

@@ -21,7 +21,7 @@ pub use lanes::{
     LaneBool, LaneByte, LaneBytes, LaneDecimal, LaneInt, LaneLong, LaneShort, LaneText,
 };
 pub use order::sort_texts;
-pub use refusal::{Refused, Stop, TableRefusal};
+pub use refusal::{Counted, Refused, StatementRefusal, Stop, TableRefusal};
 pub use text::Text;
 pub use value::{DataType, Decimal, Value};
 

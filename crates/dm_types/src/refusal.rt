@@ -1,11 +1,18 @@
 // Why a statement is refused, and why it stops.
 ghost use Rattle.std.specs.Prelude.{◌≡◌};
 
+use crate::text::Text;
 use std::alloc::AllocError;
-use std::fmt;
+
+/// What of a table is past its limit.
+#[derive(Clone, Copy, Debug, PartialEq, Eq)]
+pub enum Counted {
+    /// The commits of its log.
+    Commits,
+}
 
 /// Why a table isn't opened.
-#[derive(Clone, Copy, Debug, PartialEq, Eq)]
+#[derive(Debug, PartialEq, Eq, Drop)]
 pub enum TableRefusal {
     /// `O1`: the log folder holds no commit file.
     NoTable,
@@ -21,22 +28,79 @@ pub enum TableRefusal {
         /// The first such line, counted from 1.
         line: u64,
     },
+    /// `O4`: the protocol's version is none that is read, or none that is written.
+    ProtocolUnsupported {
+        /// The reader version.
+        reader: u32,
+        /// The writer version.
+        writer: u32,
+    },
+    /// `O5`: the protocol lists a feature that isn't known.
+    UnknownFeature {
+        /// The least such name by bytes.
+        name: Text,
+    },
+    /// `O6`: the log has no metadata or no protocol.
+    NoMetadata,
+    /// `O10`: a file has a deletion vector.
+    DeletionVector {
+        /// The file's path as logged.
+        path: Text,
+    },
+    /// `O20`: a limit of size is passed.
+    TooLarge {
+        /// What is too much.
+        counted: Counted,
+    },
+    /// `O21`: the version that is asked for isn't there.
+    NoSuchVersion {
+        /// The version.
+        version: u64,
+    },
+    /// `O22`: the table has a rule that a writer can't keep.
+    UnsupportedRule {
+        /// The rule's name.
+        name: Text,
+    },
+}
+
+/// Why a table that is opened keeps a statement off.
+#[derive(Debug, PartialEq, Eq, Drop)]
+pub enum StatementRefusal {
+    /// `S4`: the table takes new rows only.
+    AppendOnly,
+    /// `S5`: the table doesn't track its rows.
+    RowTrackingOff,
+    /// `S16`: the path of a new file is taken.
+    NameTaken {
+        /// The whole path in the store.
+        path: Text,
+    },
+    /// `S17`: the commit file of the new version is there already.
+    VersionTaken {
+        /// The new version.
+        version: u64,
+    },
 }
 
 /// Why a statement is refused.
-#[derive(Clone, Copy, Debug, PartialEq, Eq)]
+#[derive(Debug, PartialEq, Eq, Drop)]
 pub enum Refused {
     /// The table isn't opened.
     Table(TableRefusal),
+    /// The table is opened, and keeps the statement off.
+    Statement(StatementRefusal),
 }
 
 /// Why a statement has no answer.
-#[derive(Clone, Copy, Debug, PartialEq, Eq)]
+#[derive(Debug, PartialEq, Eq, Drop)]
 pub enum Stop {
     /// The statement is refused.
     Refused(Refused),
     /// A call of the store failed.
     Store,
+    /// A draw of a name failed.
+    Names,
     /// There was no memory.
     Memory,
 }
@@ -51,30 +115,24 @@ impl From<AllocError> for Stop {
     }
 }
 
-impl fmt::Display for TableRefusal {
-    ghost use Rattle.std.specs.Prelude.{Some};
-    ghost use Rattle.dm_types.specs.Refusal.{table_cause};
+impl From<TableRefusal> for Stop {
+    ghost use Rattle.dm_types.specs.declared.refusal.Refused.TheVariants.{Table};
+    ghost use Rattle.dm_types.specs.declared.refusal.Stop.TheVariants as stop;
 
-    ghost output = { λ refusal. Some (table_cause refusal) };
+    ghost from_gives = { λ refusal e. e ≡ stop.Refused (Table refusal) };
 
-    fn fmt<W: fmt::Write>(&self, f: &mut fmt::Formatter<W>) -> fmt::Result {
-        match self {
-            TableRefusal::NoTable => write!(f, "O1"),
-            TableRefusal::LogGap { version } => write!(f, "O2 {version}"),
-            TableRefusal::BadAction { version, line } => write!(f, "O3 {version} {line}"),
-        }
+    fn from(refusal: TableRefusal) -> Stop {
+        Stop::Refused(Refused::Table(refusal))
     }
 }
 
-impl fmt::Display for Refused {
-    ghost use Rattle.std.specs.Prelude.{Some};
-    ghost use Rattle.dm_types.specs.Refusal.{refused_cause};
+impl From<StatementRefusal> for Stop {
+    ghost use Rattle.dm_types.specs.declared.refusal.Refused.TheVariants.{Statement};
+    ghost use Rattle.dm_types.specs.declared.refusal.Stop.TheVariants as stop;
 
-    ghost output = { λ refused. Some (refused_cause refused) };
+    ghost from_gives = { λ refusal e. e ≡ stop.Refused (Statement refusal) };
 
-    fn fmt<W: fmt::Write>(&self, f: &mut fmt::Formatter<W>) -> fmt::Result {
-        match self {
-            Refused::Table(refusal) => write!(f, "{refusal}"),
-        }
+    fn from(refusal: StatementRefusal) -> Stop {
+        Stop::Refused(Refused::Statement(refusal))
     }
 }

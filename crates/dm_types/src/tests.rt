@@ -1,7 +1,9 @@
-// Texts, their order, and how refusals are printed.
+// Texts, their order, and causes of a stop.
 mod values;
 
-use crate::{Bytes, Exact, Items, Refused, Stop, TableRefusal, Text, TextList, sort_texts};
+use crate::{
+    Bytes, Exact, Items, Refused, StatementRefusal, Stop, TableRefusal, Text, TextList, sort_texts,
+};
 use std::alloc::{AllocError, Global};
 use std::collections::HashSet;
 use std::test::Fail;
@@ -51,19 +53,10 @@ fn texts_are_bytes_in_utf8(rt: HostRuntime) -> Result<(), Fail> {
 }
 
 #[test]
-fn refusals_print_their_codes(rt: HostRuntime) -> Result<(), Fail> {
-    let bad_action = TableRefusal::BadAction {
-        version: 1,
-        line: 2,
-    };
-    for (refusal, text) in [
-        (TableRefusal::NoTable, "O1"),
-        (TableRefusal::LogGap { version: 12 }, "O2 12"),
-        (bad_action, "O3 1 2"),
-    ] {
-        let printed = Refused::Table(refusal).to_string(rt.alloc())?;
-        assert!(rt; printed.as_str() == text);
-    }
+fn stops_know_their_cause(rt: HostRuntime) {
     assert!(rt; Stop::from(AllocError) == Stop::Memory);
-    Ok(())
+    let no_table = Stop::from(TableRefusal::NoTable);
+    assert!(rt; no_table == Stop::Refused(Refused::Table(TableRefusal::NoTable)));
+    let off = Stop::from(StatementRefusal::RowTrackingOff);
+    assert!(rt; off == Stop::Refused(Refused::Statement(StatementRefusal::RowTrackingOff)));
 }
