@@ -53,8 +53,16 @@ abbrev pub stop_from_list : ListFault → Stop
 stop_from_list list.Failed = stop.Store
 stop_from_list list.Memory = stop.Memory
 
--- why a statement over a store has no answer
+-- the count of a store's faults, by why a statement has no answer
 abbrev pub StopCause : Stop → ℕ → ℕ → Type 0
 StopCause (stop.Refused refused) before now = now ≡ before
 StopCause stop.Store before now = Rose before now
+StopCause stop.Names before now = now ≡ before
 StopCause stop.Memory before now = now ≡ before
+
+-- the count of the failed draws
+abbrev pub DrawCause : Stop → ℕ → ℕ → Type 0
+DrawCause (stop.Refused refused) before now = now ≡ before
+DrawCause stop.Store before now = now ≡ before
+DrawCause stop.Names before now = Rose before now
+DrawCause stop.Memory before now = now ≡ before

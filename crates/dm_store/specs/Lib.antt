@@ -8,4 +8,5 @@ pub mod MemoryFiles
 pub mod MemoryStreams
 pub mod MemoryAnswers
 pub mod Taking
+pub mod Claims
 pub mod LoggedPath

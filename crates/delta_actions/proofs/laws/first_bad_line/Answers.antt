@@ -4,4 +4,4 @@ use Rattle.delta_actions.proofs.laws.first_bad_line.Goals as goal
 
 pub returns : goal.returns
 unfolding commit_of
-returns c = first (lines c.args.bytes.now) c.args.line
+returns c = λ bytes line. first (lines bytes) line

@@ -4,4 +4,4 @@ use Rattle.delta_actions.proofs.laws.good_forms.Goals as goal
 
 pub returns : goal.returns
 unfolding commit_of
-returns c = read_formed (lines c.args.bytes.now)
+returns c = λ bytes. read_formed (lines bytes)

@@ -4,4 +4,4 @@ use Rattle.delta_actions.proofs.laws.good_lines.Goals as goal
 
 pub returns : goal.returns
 unfolding commit_of
-returns c = good 1 (lines c.args.bytes.now)
+returns c = λ bytes. good 1 (lines bytes)
