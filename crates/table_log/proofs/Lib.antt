@@ -1,0 +1,7 @@
+mod Digits
+mod Found
+mod Frames
+mod Inserted
+mod Naming
+mod Next
+mod Spelling

@@ -1,0 +1,4 @@
+pub mod Log
+pub mod Versions
+pub mod Listed
+pub mod Agree

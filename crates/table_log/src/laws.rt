@@ -1,0 +1,23 @@
+// What stays of tables when files are added.
+ghost use Rattle.table_log.specs.Agree.{FrameUnseen, FrameNext, SaysNext, NextIsAbsent};
+
+/// A law: files that no table has as commit files change no version.
+pub fn unseen_files_change_nothing()
+    ensures { FrameUnseen }
+{}
+
+/// A law: the commit file of a table's next version, behind files that are no commit files, changes
+/// that version alone.
+pub fn next_version_stands_alone()
+    ensures { FrameNext }
+{}
+
+/// A law: what the next version then says.
+pub fn says_next()
+    ensures { SaysNext }
+{}
+
+/// A law: a table's next version has no commit file yet.
+pub fn next_is_absent()
+    ensures { NextIsAbsent }
+{}
