@@ -1,0 +1,4 @@
+mod Checking
+mod Heads
+mod Member
+mod Reading

@@ -1,0 +1,5 @@
+pub mod Tells
+pub mod Newest
+pub mod Properties
+pub mod Head
+pub mod Opened

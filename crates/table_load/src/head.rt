@@ -1,0 +1,85 @@
+// The state of a table that its log says.
+ghost use Rattle.std.specs.Prelude.{◌≡◌, ◌<◌, length};
+ghost use Rattle.dm_store.specs.Causes.{Counts, StopCause};
+ghost use Rattle.log_replay.specs.Live.{AreNumbered};
+ghost use Rattle.table_features.specs.Features.{named_fault};
+ghost use Rattle.table_load.specs.Head as spec;
+ghost use Rattle.table_load.specs.Tells.{Tells, Gives};
+ghost use Rattle.table_log.specs.Log.{log_of};
+
+use crate::log::load_log;
+use delta_actions::ProtocolAction;
+use dm_store::Store;
+use dm_types::{Stop, TableRefusal, Text, TextList};
+use log_replay::{Commits, ReplayFault, Snapshot, replay};
+use std::alloc::Global;
+use table_features::{FeatureFault, check_read};
+
+/// The state of a table at a version, or at the newest where none is asked for.
+///
+/// Beside what [`load_log`] refuses, the first of these is refused: a log without metadata or without
+/// protocol (`NoMetadata`), a reader version other than 1, 2 and 3 (`ProtocolUnsupported`), and at
+/// reader version 3 a reader feature that isn't known (`UnknownFeature`, the least by bytes).
+pub fn load_head<S: Store>(
+    alloc: Global,
+    store: &mut S,
+    table: &Text,
+    version: Option<u64>,
+) -> Result<Snapshot, Stop>
+    ensures head { Tells (S.files store.old) (λ files. spec.head_at version (log_of table.now files)) result }
+    ensures kept { S.files store.new ≡ S.files store.old }
+    ensures cause { Counts StopCause (S.faults store.old) (S.faults store.new) result }
+    ensures taken { S.taken store.new ≡ S.taken store.old }
+{
+    let commits = load_log(alloc, store, table, version)?;
+    head_of(alloc, &commits)
+}
+
+// The state behind the commits, if it may be read.
+fn head_of(alloc: Global, commits: &Commits) -> Result<Snapshot, Stop>
+    requires { AreNumbered 0 commits.now }
+    ensures { Gives (spec.head_of commits.now) result }
+{
+    match replay(alloc, commits) {
+        Ok(table) => readable(alloc, table),
+        Err(ReplayFault::NoMetadata) => Err(TableRefusal::NoMetadata.into()),
+        Err(ReplayFault::Memory) => Err(Stop::Memory),
+    }
+}
+
+fn readable(alloc: Global, table: Snapshot) -> Result<Snapshot, Stop>
+    ensures { Gives (spec.readable table) result }
+{
+    permit(alloc, &table.protocol, check_read(&table.protocol))?;
+    Ok(table)
+}
+
+// The answer of a check on the protocol, as the refusal of the table.
+pub(crate) fn permit(
+    alloc: Global,
+    protocol: &ProtocolAction,
+    answer: Result<(), FeatureFault>,
+) -> Result<(), Stop>
+    requires { spec.IsPlaced protocol.now answer }
+    ensures { Gives (spec.unless_fault protocol.now (named_fault protocol.now answer)) result }
+{
+    match answer {
+        Ok(()) => Ok(()),
+        Err(FeatureFault::Numbers) => Err(TableRefusal::ProtocolUnsupported {
+            reader: protocol.min_reader_version,
+            writer: protocol.min_writer_version,
+        }
+        .into()),
+        Err(FeatureFault::Reader { index }) => unknown(alloc, &protocol.reader_features, index),
+        Err(FeatureFault::Writer { index }) => unknown(alloc, &protocol.writer_features, index),
+    }
+}
+
+// The feature at this place isn't known.
+fn unknown(alloc: Global, features: &TextList, index: usize) -> Result<(), Stop>
+    requires { index < length features.now }
+    ensures { Gives (spec.unknown_at features.now index) result }
+{
+    let name = Text::from_str(alloc, features.get(index).as_str())?;
+    Err(TableRefusal::UnknownFeature { name }.into())
+}
