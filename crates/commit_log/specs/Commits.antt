@@ -1,0 +1,112 @@
+-- What putting a new version does.
+use Rattle.std.specs.Prelude.{◌≡◌, ◌⊎◌, ℕ, ◌<◌, List, [], ◌∷◌, length, take, get_or, Option, Result, Ok, Err, ⊤}
+use Rattle.dm_store.specs.Causes.{Rose}
+use Rattle.dm_store.specs.Files.{Files, WhereTold, appended, IsAbsent, IsPresent}
+use Rattle.dm_types.specs.declared.refusal.Refused.TheVariants as refused
+use Rattle.dm_types.specs.declared.refusal.StatementRefusal.TheVariants as statement
+use Rattle.dm_types.specs.declared.refusal.Stop.{Stop}
+use Rattle.dm_types.specs.declared.refusal.Stop.TheVariants as stop
+use Rattle.delta_actions.specs.Meaning.{commit_of}
+use Rattle.delta_actions.specs.Writable.{AreWritable}
+use Rattle.delta_actions.specs.Written.{commit_text}
+use Rattle.table_log.specs.Log.{commit_path}
+use Rattle.commit_log.specs.declared.new_files.NewFiles.{NewFiles}
+use Rattle.commit_log.specs.declared.fault.CommitFault.{CommitFault}
+use Rattle.commit_log.specs.declared.fault.CommitFault.TheVariants as fault
+use Rattle.commit_log.specs.declared.puts.FileFault.{FileFault}
+use Rattle.commit_log.specs.declared.puts.FileFault.TheVariants as file
+use Rattle.commit_log.specs.Block.{files_of, block_of, IsFresh}
+
+-- these files were put, and none of their paths was there
+pub record AllPut (block : Files) (old now : Option Files) : Type 0 where
+  pub grown : now ≡ appended old block
+  pub fresh : WhereTold old (IsFresh block)
+
+-- the first of these files were put, so many of them
+pub record SomePut (block : Files) (old now : Option Files) : Type 0 where
+  pub count : ℕ
+  pub put : AllPut (take count block) old now
+
+-- the files before this place were put, and the path there was taken
+pub record IsFirstTaken (block : Files) (index : ℕ) (old now : Option Files) : Type 0 where
+  pub within : index < length block
+  pub put : AllPut (take index block) old now
+  pub there : IsPresent (get_or block index ([], [])).0 old
+
+-- the files were put, and then the commit file was there
+pub record IsOvertaken (fresh : NewFiles) (old now : Option Files) : Type 0 where
+  pub put : AllPut (files_of fresh) old now
+  pub there : IsPresent (commit_path fresh.table fresh.version) old
+
+-- putting the files of a new version
+abbrev pub Commits : NewFiles → Option Files → Option Files → Result ℕ CommitFault → Type 0
+Commits fresh old now (Ok version) = (version ≡ fresh.version) × AllPut (block_of fresh) old now
+Commits fresh old now (Err (fault.NameTaken path)) = (index : ℕ) × IsFirstTaken (files_of fresh) index old now × (path ≡ (get_or (files_of fresh) index ([], [])).0)
+Commits fresh old now (Err (fault.VersionTaken version)) = (version ≡ fresh.version) × IsOvertaken fresh old now
+Commits fresh old now (Err fault.Failed) = SomePut (block_of fresh) old now
+Commits fresh old now (Err fault.Memory) = SomePut (files_of fresh) old now
+
+-- what is written for the new version reads back, if its actions have the forms of their kinds
+abbrev pub ReadsBack : NewFiles → Type 0
+ReadsBack fresh = AreWritable fresh.actions → commit_of (commit_text fresh.actions) ≡ Ok fresh.actions
+
+-- the same where all of it was built, as before each put
+abbrev pub IsBuilt : NewFiles → Result ℕ CommitFault → Type 0
+IsBuilt fresh (Ok version) = ReadsBack fresh
+IsBuilt fresh (Err (fault.NameTaken path)) = ReadsBack fresh
+IsBuilt fresh (Err (fault.VersionTaken version)) = ReadsBack fresh
+IsBuilt fresh (Err fault.Failed) = ReadsBack fresh
+IsBuilt fresh (Err fault.Memory) = ⊤
+
+-- the count of the store's faults
+abbrev pub CommitCause : CommitFault → ℕ → ℕ → Type 0
+CommitCause (fault.NameTaken path) before now = now ≡ before
+CommitCause (fault.VersionTaken version) before now = now ≡ before
+CommitCause fault.Failed before now = Rose before now
+CommitCause fault.Memory before now = now ≡ before
+
+-- the count of the paths that were taken
+abbrev pub CommitTaken : CommitFault → ℕ → ℕ → Type 0
+CommitTaken (fault.NameTaken path) before now = Rose before now
+CommitTaken (fault.VersionTaken version) before now = Rose before now
+CommitTaken fault.Failed before now = now ≡ before
+CommitTaken fault.Memory before now = now ≡ before
+
+-- the stop of a statement whose version wasn't added
+abbrev pub stop_of : CommitFault → Stop
+stop_of (fault.NameTaken path) = stop.Refused (refused.Statement (statement.NameTaken path))
+stop_of (fault.VersionTaken version) = stop.Refused (refused.Statement (statement.VersionTaken version))
+stop_of fault.Failed = stop.Store
+stop_of fault.Memory = stop.Memory
+
+-- putting files that aren't the commit file
+abbrev pub PutsFiles : Files → Option Files → Option Files → Result (Unit {0}) FileFault → Type 0
+PutsFiles block old now (Ok _) = AllPut block old now
+PutsFiles block old now (Err (file.Exists index)) = IsFirstTaken block index old now
+PutsFiles block old now (Err file.Failed) = SomePut block old now
+PutsFiles block old now (Err file.Memory) = SomePut block old now
+
+-- putting one of them
+abbrev pub PutsFile : ℕ → List ℕ → List ℕ → Option Files → Option Files → Result (Unit {0}) FileFault → Type 0
+PutsFile index path bytes old now (Ok _) = IsAbsent path old × (now ≡ appended old ((path, bytes) ∷ []))
+PutsFile index path bytes old now (Err (file.Exists at)) = (at ≡ index) × IsPresent path old × (now ≡ old)
+PutsFile index path bytes old now (Err file.Failed) = IsAbsent path old × ((now ≡ old) ⊎ (now ≡ appended old ((path, bytes) ∷ [])))
+PutsFile index path bytes old now (Err file.Memory) = IsAbsent path old × (now ≡ old)
+
+abbrev pub PutCause : FileFault → ℕ → ℕ → Type 0
+PutCause (file.Exists index) before now = now ≡ before
+PutCause file.Failed before now = Rose before now
+PutCause file.Memory before now = now ≡ before
+
+abbrev pub PutTaken : FileFault → ℕ → ℕ → Type 0
+PutTaken (file.Exists index) before now = Rose before now
+PutTaken file.Failed before now = now ≡ before
+PutTaken file.Memory before now = now ≡ before
+
+-- putting the commit file
+abbrev pub PutsCommit : ℕ → List ℕ → List ℕ → Option Files → Option Files → Result ℕ CommitFault → Type 0
+PutsCommit version path bytes old now (Ok found) = (found ≡ version) × IsAbsent path old × (now ≡ appended old ((path, bytes) ∷ []))
+PutsCommit version path bytes old now (Err (fault.NameTaken taken)) = ⊥
+PutsCommit version path bytes old now (Err (fault.VersionTaken found)) = (found ≡ version) × IsPresent path old × (now ≡ old)
+PutsCommit version path bytes old now (Err fault.Failed) = IsAbsent path old × ((now ≡ old) ⊎ (now ≡ appended old ((path, bytes) ∷ [])))
+PutsCommit version path bytes old now (Err fault.Memory) = IsAbsent path old × (now ≡ old)
