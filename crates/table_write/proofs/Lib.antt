@@ -1,0 +1,2 @@
+mod Deleted
+mod Written

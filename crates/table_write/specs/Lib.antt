@@ -1,0 +1,4 @@
+pub mod Outside
+pub mod Writing
+pub mod Delete
+pub mod DeleteLaws
