@@ -1,3 +1,4 @@
 pub mod Gives
 pub mod Classes
 pub mod Answers
+pub mod Tables

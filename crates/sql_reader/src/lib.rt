@@ -8,10 +8,12 @@ mod expr;
 mod fault;
 mod read;
 mod statement;
+mod table;
 mod tokens;
 
 pub use fault::ScriptFault;
 pub use read::{read_expr, read_script};
+pub use table::table_name;
 
 #[cfg(test)]
 mod tests;

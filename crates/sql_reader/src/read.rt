@@ -1,14 +1,16 @@
 // The readers of bytes.
 ghost use Rattle.std.specs.Prelude.{◌≡◌, ℕ, List, [], IfOk, length};
+ghost use Rattle.std.specs.List.{All};
 ghost use Rattle.sql_lex.specs.Tokens.{tokens};
 ghost use Rattle.sql_grammar.specs.Grammar as grammar;
 ghost use Rattle.sql_tree.specs.declared.tree.Expr.{Expr};
 ghost use Rattle.sql_tree.specs.declared.tree.Stmt.{Stmt};
 ghost use Rattle.sql_reader.specs.Answers.{IsRead, IsPlace};
+ghost use Rattle.sql_reader.specs.Tables.{HasTable};
 
 use crate::fault::ScriptFault;
 use crate::statement::{expression_of, script_of};
-use sql_lex::read_tokens_of;
+use sql_lex::{read_tokens_of, spans_ascend, tokens_mean};
 use sql_tree::{Expr, Statements};
 use std::alloc::Global;
 
@@ -21,7 +23,11 @@ pub fn read_script(alloc: Global, bytes: &[u8]) -> Result<Statements, ScriptFaul
     ensures only { (all : List Stmt) → grammar.script.reads (tokens bytes.now) all [] → IsRead result all }
     // A fault's place is the first token up to which no script begins with the tokens, or the end.
     ensures place { (at : ℕ) → result ≡ Err (ScriptFault.BadScript at) → IsPlace grammar.script (length bytes.now) (tokens bytes.now) at }
+    // The name of each statement's table stands in the bytes.
+    ensures tables { IfOk result (λ all. All (HasTable bytes.now) all) }
 {
+    tokens_mean();
+    spans_ascend();
     let Ok(tokens) = read_tokens_of(alloc, bytes) else {
         return Err(ScriptFault::Memory);
     };
