@@ -1,14 +1,4 @@
-mod Digits
 mod Ending
-mod Found
-mod Gaps
-mod Listed
-mod Naming
-mod Numbers
-mod Reader
-mod Reading
 mod Showing
-mod Spelled
-mod Spelling
+mod Starting
 mod Turns
-mod Words

@@ -1,8 +1,5 @@
 pub mod Script
-pub mod Spelling
-pub mod Log
-pub mod Listed
-pub mod Tells
+pub mod Refusals
 pub mod Shown
 pub mod Outcome
 pub mod Running

@@ -1,5 +1,5 @@
 -- What the words and the script of a run make due.
-use Rattle.std.specs.Prelude.{ℕ, List, [], ◌∷◌, ◌++◌, length, Option, Some, None, codes, nat_lt, if◌then◌else◌}
+use Rattle.std.specs.Prelude.{◌≡◌, ◌≢◌, ℕ, ◌<◌, ◌≤◌, List, [], ◌∷◌, ◌++◌, length, codes}
 use Rattle.std.specs.Fmt.{decimal}
 use Rattle.script_run.specs.declared.outcome.Outcome.{Outcome}
 use Rattle.script_run.specs.declared.outcome.Due.{Due}
@@ -7,7 +7,7 @@ use Rattle.script_run.specs.declared.outcome.Due.TheVariants as due
 use Rattle.script_run.specs.declared.statement.Statement.{Statement}
 use Rattle.script_run.specs.declared.status.Status.{Status}
 use Rattle.script_run.specs.declared.status.Status.TheVariants as status
-use Rattle.script_run.specs.Script.{statements_of}
+use Rattle.script_run.specs.Script.{IsScript, IsNoScript}
 
 abbrev pub ending : Status → List ℕ → Outcome
 ending status text = record { status = status; text = text }
@@ -23,13 +23,16 @@ refused_line number cause = codes "refused " ++ decimal number ++ codes ": " ++ 
 abbrev pub max_script : ℕ
 max_script = 1048576
 
--- the statements, if the script is in the grammar
-abbrev pub due_of_script : Option (List Statement) → Due
-due_of_script None = due.Ends (ending status.BadScript (refused_line 0 (codes "P1 0")))
-due_of_script (Some statements) = due.Runs statements
+-- what a script makes due
+pub data IsDueOf : List ℕ → Due → Type 0 where
+  -- a longer script is refused before it is read for its grammar
+  too_long : (script : List ℕ) → max_script < length script → IsDueOf script (due.Ends (ending status.BadScript (refused_line 0 (codes "P2"))))
+  -- a script that isn't in the grammar is refused with the place
+  bad : (script : List ℕ) (at : ℕ) → length script ≤ max_script → IsNoScript script at → IsDueOf script (due.Ends (ending status.BadScript (refused_line 0 (codes "P1 " ++ decimal at))))
+  -- a script of the grammar is run
+  good : (script : List ℕ) (statements : List Statement) → length script ≤ max_script → IsScript script statements → IsDueOf script (due.Runs statements)
 
--- no words are accepted; a longer script is refused before it is read for its grammar
-abbrev pub due_of : {W : Type 0} → List W → List ℕ → Due
-due_of [] script =
-    if nat_lt max_script (length script) then due.Ends (ending status.BadScript (refused_line 0 (codes "P2"))) else due_of_script (statements_of script)
-due_of (word ∷ words) script = due.Ends (ending status.BadWords usage_line)
+-- what these words and this script make due: no words are accepted yet
+pub data IsDue {W : Type 0} (words : List W) (script : List ℕ) : Due → Type 0 where
+  usage : words ≢ [] → IsDue words script (due.Ends (ending status.BadWords usage_line))
+  scripted : (what : Due) → words ≡ [] → IsDueOf script what → IsDue words script what

@@ -1,15 +1,14 @@
 -- What a run leaves: its status, what it wrote, what it read, and the counts of faults.
-use Rattle.std.specs.Prelude.{◌≡◌, ◌≢◌, ℕ, ◌≤◌, List, [], length, take, Option, IfSome, ⊤, ◌==◌, if◌then◌else◌}
+use Rattle.std.specs.Prelude.{◌≡◌, ℕ, ◌≤◌, List, [], length, take, Option, IfSome, ⊤, ◌⊎◌, ◌==◌, if◌then◌else◌}
 use Rattle.std.specs.Io.KnownBytes.{Appends, IsAtEnd}
 use Rattle.dm_store.specs.Causes.{Rose}
-use Rattle.dm_store.specs.Files.{Files}
 use Rattle.script_run.specs.declared.status.Status.{Status}
 use Rattle.script_run.specs.declared.status.Status.TheVariants as status
 use Rattle.script_run.specs.declared.outcome.Outcome.{Outcome}
 use Rattle.script_run.specs.declared.statement.Statement.{Statement}
-use Rattle.script_run.specs.declared.outcome.Due.{Due}
 use Rattle.script_run.specs.declared.outcome.Due.TheVariants as due
-use Rattle.script_run.specs.Outcome.{due_of, max_script}
+use Rattle.script_run.specs.Outcome.{IsDue, max_script}
+use Rattle.table_write.specs.Outside.{Outside}
 use Rattle.script_run.specs.Running.{Runs}
 
 -- the number that a run returns
@@ -56,32 +55,32 @@ Blames status.SourceFailed before now = Rose before.source now.source × (now �
 Blames status.NoMemory before now = now ≡ before
 Blames status.NamesFailed before now = Rose before.names now.names × (now ≡ record before { names = now.names })
 
--- the script decides, and not the words
-abbrev pub IsOfScript : Due → Type 0
-IsOfScript (due.Ends ending) = ending.status ≢ status.BadWords
-IsOfScript (due.Runs statements) = ⊤
+-- the line that ends a run is written, or a front of it, or nothing for want of memory
+pub data EndsLine : Outcome → List ℕ → Status → Type 0 where
+  whole : (ending : Outcome) → EndsLine ending ending.text ending.status
+  line_cut : (ending : Outcome) (count : ℕ) → EndsLine ending (take count ending.text) status.SinkFailed
+  line_unwritten : (ending : Outcome) → EndsLine ending [] status.NoMemory
 
--- what is due is done, or a failure comes before: the files before and after, what is written, and the status
-pub data Does : Due → Option Files → Option Files → List ℕ → Status → Type 0 where
+-- what the words and the script make due is done, or a failure comes before: the outside before and after, what is
+-- written, and the status
+pub data Does {W : Type 0} (words : List W) (script : List ℕ) : Outside → Outside → List ℕ → Status → Type 0 where
   -- the line is written
-  ended : (ending : Outcome) (files : Option Files) → Does (due.Ends ending) files files ending.text ending.status
+  ended : (ending : Outcome) (old : Outside) (text : List ℕ) (how : Status) → IsDue words script (due.Ends ending) → EndsLine ending text how → Does words script old old text how
   -- the statements are run, the first with the number 1
-  ran : (statements : List Statement) (old new : Option Files) (text : List ℕ) (ended : Status) → Runs 1 statements old new text ended → Does (due.Runs statements) old new text ended
-  -- a call of the source failed before the script was read
-  unread : (what : Due) (files : Option Files) → IsOfScript what → Does what files files [] status.SourceFailed
-  -- a call of the sink failed at the line, and a front of it is written
-  line_cut : (ending : Outcome) (files : Option Files) (count : ℕ) → Does (due.Ends ending) files files (take count ending.text) status.SinkFailed
+  ran : (statements : List Statement) (old new : Outside) (text : List ℕ) (how : Status) → IsDue words script (due.Runs statements) → Runs 1 statements old new text how → Does words script old new text how
+  -- a call of the source failed before the script was read, which only a run without words asks for
+  unread : (old : Outside) → words ≡ [] → Does words script old old [] status.SourceFailed
   -- there was no memory
-  no_memory : (what : Due) (files : Option Files) → Does what files files [] status.NoMemory
+  no_memory : (old : Outside) → Does words script old old [] status.NoMemory
 
--- what a run with these words did, by the bytes of its source, the files before and after, what was written before and
+-- what a run with these words did, by the bytes of its source, the outside before and after, what was written before and
 -- after, and its status; where the source tells its bytes, they are the script
-pub record Ran {W : Type 0} (words : List W) (left : Option (List ℕ)) (files_old files_new : Option Files) (old new : Option (List ℕ)) (status : Status) : Type 0 where
+pub record Ran {W : Type 0} (words : List W) (left : Option (List ℕ)) (before after : Outside) (old new : Option (List ℕ)) (status : Status) : Type 0 where
   pub script : List ℕ
   pub text : List ℕ
   pub of_source : IfSome left (λ bytes. script ≡ bytes)
   pub written : Appends old new text
-  pub does : Does (due_of words script) files_old files_new text status
+  pub does : Does words script before after text status
 
 -- where statements ran, or the script isn't in the grammar, the source was read to its end; where the words
 -- aren't accepted it wasn't touched
@@ -95,3 +94,7 @@ ReadsSource status.SinkFailed old new = ⊤
 ReadsSource status.SourceFailed old new = ⊤
 ReadsSource status.NoMemory old new = ⊤
 ReadsSource status.NamesFailed old new = ⊤
+
+-- before the first statement the store, the clock and the names are untouched
+abbrev pub IsBeforeStatements : Status → Type 0
+IsBeforeStatements end = (end ≡ status.BadWords) ⊎ (end ≡ status.BadScript) ⊎ (end ≡ status.SourceFailed)

@@ -2,7 +2,6 @@
 use Rattle.std.specs.Prelude.{◌≡◌, ℕ, List, [], ◌∷◌, Option, IfSome, Result, Ok, Err, ⊤, ◌⊎◌}
 use Rattle.std.specs.Io.KnownBytes.{Appends, IsAtEnd}
 use Rattle.dm_store.specs.Causes.{Rose}
-use Rattle.dm_store.specs.Files.{Files}
 use Rattle.dm_store.specs.declared.faults.SinkFault.{SinkFault}
 use Rattle.dm_store.specs.declared.faults.SinkFault.TheVariants as sink
 use Rattle.script_run.specs.declared.halt.Halt.{Halt}
@@ -13,14 +12,18 @@ use Rattle.script_run.specs.declared.outcome.Due.TheVariants as due
 use Rattle.script_run.specs.declared.statement.Statement.{Statement}
 use Rattle.script_run.specs.declared.status.Status.{Status}
 use Rattle.script_run.specs.declared.status.Status.TheVariants as status
-use Rattle.script_run.specs.Outcome.{due_of}
-use Rattle.script_run.specs.Ran.{ReadsSource, Counters, Blames, Does}
+use Rattle.script_run.specs.Outcome.{IsDue}
+use Rattle.script_run.specs.Script.{IsScript, IsNoScript}
+use Rattle.sql_reader.specs.declared.fault.ScriptFault.{ScriptFault}
+use Rattle.sql_reader.specs.declared.fault.ScriptFault.TheVariants as fault
+use Rattle.script_run.specs.Ran.{ReadsSource, Counters, Blames, EndsLine}
+use Rattle.table_write.specs.Outside.{Outside}
 use Rattle.script_run.specs.Running.{Answers, Runs}
 
 -- what some script makes due, the source's where it tells its bytes; or the source failed, which only a run without
 -- words asks
 abbrev pub Reaches : {W : Type 0} → List W → Option (List ℕ) → Result Due Halt → Type 0
-Reaches words left (Ok what) = (script : List ℕ) × IfSome left (λ bytes. script ≡ bytes) × (what ≡ due_of words script)
+Reaches words left (Ok what) = (script : List ℕ) × IfSome left (λ bytes. script ≡ bytes) × IsDue words script what
 Reaches words left (Err halt.Source) = words ≡ []
 Reaches words left (Err halt.Memory) = ⊤
 
@@ -30,6 +33,12 @@ ReadsBefore (Ok (due.Ends ending)) old new = ReadsSource ending.status old new
 ReadsBefore (Ok (due.Runs statements)) old new = IsAtEnd new
 ReadsBefore (Err halt.Source) old new = ⊤
 ReadsBefore (Err halt.Memory) old new = ⊤
+
+-- what reading a script answers
+abbrev pub ReadsScript : List ℕ → Result (List Statement) ScriptFault → Type 0
+ReadsScript script (Ok statements) = IsScript script statements
+ReadsScript script (Err (fault.BadScript at)) = IsNoScript script at
+ReadsScript script (Err fault.Memory) = ⊤
 
 abbrev pub SourceCause : Halt → ℕ → ℕ → Type 0
 SourceCause halt.Source before now = Rose before now
@@ -45,7 +54,7 @@ EndsByLine (due.Runs statements) = ⊤
 
 -- the line is written, or a failure came before
 abbrev pub EndsRun : Outcome → Option (List ℕ) → Option (List ℕ) → Status → Type 0
-EndsRun ending old new ended = (text : List ℕ) × Appends old new text × ((files : Option Files) → Does (due.Ends ending) files files text ended)
+EndsRun ending old new how = (text : List ℕ) × Appends old new text × EndsLine ending text how
 
 -- the status where a text isn't written
 abbrev pub status_of_fault : SinkFault → Status
@@ -53,13 +62,13 @@ status_of_fault sink.Failed = status.SinkFailed
 status_of_fault sink.Memory = status.NoMemory
 
 -- a statement is run and its text written: the next is run, or the run ends
-abbrev pub RunsOne : ℕ → Statement → Option Files → Option Files → Option (List ℕ) → Option (List ℕ) → Result (Unit {0}) Status → Type 0
-RunsOne number first files files_new old new (Ok _) = (text : List ℕ) × Answers first files (Ok text) files_new × Appends old new text
-RunsOne number first files files_new old new (Err ended) = (text : List ℕ) × Appends old new text × ((more : List Statement) → Runs number (first ∷ more) files files_new text ended)
+abbrev pub RunsOne : ℕ → Statement → Outside → Outside → Option (List ℕ) → Option (List ℕ) → Result (Unit {0}) Status → Type 0
+RunsOne number first before after old new (Ok _) = (text : List ℕ) × Answers first before (Ok text) after × Appends old new text
+RunsOne number first before after old new (Err ended) = (text : List ℕ) × Appends old new text × ((more : List Statement) → Runs number (first ∷ more) before after text ended)
 
 -- statements are run and their texts written
-abbrev pub RunsAll : List Statement → Option Files → Option Files → Option (List ℕ) → Option (List ℕ) → Status → Type 0
-RunsAll statements files files_new old new ended = (text : List ℕ) × Appends old new text × Runs 1 statements files files_new text ended
+abbrev pub RunsAll : List Statement → Outside → Outside → Option (List ℕ) → Option (List ℕ) → Status → Type 0
+RunsAll statements before after old new ended = (text : List ℕ) × Appends old new text × Runs 1 statements before after text ended
 
 -- where the run goes on no count rose
 abbrev pub BlamesOne : Counters → Counters → Result (Unit {0}) Status → Type 0

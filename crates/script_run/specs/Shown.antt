@@ -1,12 +1,13 @@
 -- The answer of SHOW FILES: the live files of the newest version, or the first refusal.
-use Rattle.std.specs.Prelude.{ℕ, List, [], ◌∷◌, ◌++◌, Result, Ok}
+use Rattle.std.specs.Prelude.{ℕ, List, [], ◌∷◌, ◌++◌, None, Result, Ok}
 use Rattle.std.specs.List.{flat_map}
 use Rattle.dm_store.specs.Files.{Files}
 use Rattle.dm_types.specs.Order.{in_byte_order}
 use Rattle.dm_types.specs.declared.refusal.TableRefusal.{TableRefusal}
 use Rattle.dm_types.specs.Then.{go}
 use Rattle.dm_text.specs.Printing.{field}
-use Rattle.script_run.specs.Log.{log_of, commits_of}
+use Rattle.table_log.specs.Log.{log_of}
+use Rattle.table_log.specs.Versions.{commits_at}
 use Rattle.log_replay.specs.Live.{live_adds, paths_of}
 
 -- a line for each path
@@ -15,4 +16,4 @@ path_lines paths = flat_map (λ path. field path ++ 10 ∷ []) paths
 
 -- the paths as logged, in byte order
 unfoldable pub show_files : List ℕ → Files → Result (List ℕ) TableRefusal
-show_files table files = go (commits_of (log_of table files)) (λ commits. Ok (path_lines (in_byte_order (paths_of (live_adds commits)))))
+show_files table files = go (commits_at None (log_of table files)) (λ commits. Ok (path_lines (in_byte_order (paths_of (live_adds commits)))))

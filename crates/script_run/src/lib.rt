@@ -1,9 +1,8 @@
 //! Runs a script on Delta tables.
 #![tactic(auto)]
 
+mod cause;
 mod halt;
-mod laws;
-mod log;
 mod outcome;
 mod runs;
 mod script;
@@ -12,7 +11,6 @@ mod statement;
 mod statements;
 mod status;
 
-pub use laws::script_spelled;
 pub use outcome::{Due, Outcome};
 pub use runs::run;
 pub use statement::{Statement, Statements};

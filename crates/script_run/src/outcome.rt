@@ -1,8 +1,9 @@
 // What a run has to do: a line that ends it, or statements.
 ghost use Rattle.std.specs.Prelude.{◌≡◌, IfOk};
 ghost use Rattle.script_run.specs.Outcome as spec;
-ghost use Rattle.dm_types.specs.Refusal.{refused_cause};
+ghost use Rattle.script_run.specs.Refusals.{refused_cause};
 
+use crate::cause::cause_of;
 use crate::statement::Statements;
 use crate::status::Status;
 use dm_types::{Bytes, Refused};
@@ -27,7 +28,8 @@ pub enum Due {
 }
 
 impl Outcome {
-    ghost use Rattle.std.specs.Prelude.{◌≡◌, IfOk, codes};
+    ghost use Rattle.std.specs.Prelude.{◌≡◌, ◌++◌, IfOk, codes};
+    ghost use Rattle.std.specs.Fmt.{decimal};
     ghost use Rattle.script_run.specs.Outcome as spec;
     ghost use Rattle.script_run.specs.declared.status.Status.TheVariants as status;
 
@@ -48,17 +50,18 @@ impl Outcome {
     {
         Ok(Outcome {
             status: Status::BadScript,
-            text: refused_line(alloc, 0, "P2")?,
+            text: refused_line(alloc, 0, b"P2")?,
         })
     }
 
-    /// The script isn't in the grammar. The place isn't told yet: it is 0.
-    pub(crate) fn bad_script(alloc: Global) -> Result<Outcome, AllocError>
-        ensures { IfOk result (λ it. it ≡ spec.ending status.BadScript (spec.refused_line 0 (codes "P1 0"))) }
+    /// The script isn't in the grammar, and goes wrong at this byte.
+    pub(crate) fn bad_script(alloc: Global, at: u64) -> Result<Outcome, AllocError>
+        ensures { IfOk result (λ it. it ≡ spec.ending status.BadScript (spec.refused_line 0 (codes "P1 " ++ decimal at))) }
     {
+        let cause = format!(in alloc; "P1 {at}")?;
         Ok(Outcome {
             status: Status::BadScript,
-            text: refused_line(alloc, 0, "P1 0")?,
+            text: refused_line(alloc, 0, cause.as_bytes())?,
         })
     }
 }
@@ -67,14 +70,17 @@ impl Outcome {
 pub(crate) fn refusal_line(alloc: Global, number: u64, why: &Refused) -> Result<Bytes, AllocError>
     ensures { IfOk result (λ line. line ≡ spec.refused_line number (refused_cause why.now)) }
 {
-    let cause = why.to_string(alloc)?;
-    refused_line(alloc, number, cause.as_str())
+    let cause = cause_of(alloc, why)?;
+    refused_line(alloc, number, cause.as_slice())
 }
 
 // The line of a refusal: the statement's number from 1, or 0 for the script, and the cause.
-fn refused_line(alloc: Global, number: u64, cause: &str) -> Result<Bytes, AllocError>
+fn refused_line(alloc: Global, number: u64, cause: &[u8]) -> Result<Bytes, AllocError>
     ensures { IfOk result (λ line. line ≡ spec.refused_line number cause.now) }
 {
-    let line = format!(in alloc; "refused {number}: {cause}\n")?;
-    Ok(Bytes::from_vec(line.into_bytes()))
+    let head = format!(in alloc; "refused {number}: ")?;
+    let mut line = Bytes::from_vec(head.into_bytes());
+    line.extend_from_slice(cause)?;
+    line.push(b'\n')?;
+    Ok(line)
 }

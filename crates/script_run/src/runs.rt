@@ -1,10 +1,10 @@
 // The top call.
-ghost use Rattle.std.specs.Prelude.{◌≡◌, ◌≤◌, IfOk};
+ghost use Rattle.std.specs.Prelude.{◌≡◌, ◌≤◌, length, IfOk};
 ghost use Rattle.dm_store.specs.Causes.{Counts};
-ghost use Rattle.script_run.specs.Outcome as spec;
+ghost use Rattle.script_run.specs.Outcome.{IsDueOf, max_script};
+ghost use Rattle.table_write.specs.Outside.{Outside};
 ghost use Rattle.script_run.specs.Reaching.{Reaches, ReadsBefore, SourceCause, IsLineStatus, EndsByLine, EndsRun};
-ghost use Rattle.script_run.specs.Script.{statements_of as script_statements};
-ghost use Rattle.script_run.specs.Ran.{Counters, Blames, Ran, ReadsSource, status_of};
+ghost use Rattle.script_run.specs.Ran.{Counters, Blames, Ran, ReadsSource, IsBeforeStatements, status_of};
 
 use crate::halt::Halt;
 use crate::outcome::{Due, Outcome};
@@ -12,6 +12,7 @@ use crate::script::statements_of;
 use crate::statements::run_statements;
 use crate::status::Status;
 use dm_store::{Clock, NameSource, Sink, Source, Store, TakeFault, take_all};
+use sql_reader::ScriptFault;
 use std::alloc::{AllocError, Global};
 
 /// The longest script, in bytes.
@@ -23,8 +24,8 @@ const MAX_SCRIPT: usize = 1_048_576;
 /// source to the end, at most 1,048,576 bytes of it, and then its statements are run in turn. The
 /// text of each goes to `out` in one piece. The first refusal ends the run, its line written in the
 /// same way, as does the usage line. A failed call, or want of memory, ends the run with nothing
-/// more written; a failed write may leave a front of its text. The clock and the names aren't asked
-/// yet.
+/// more written; a failed write may leave a front of its text. A write statement draws one name and
+/// then reads the clock once, if its checks pass; nothing else asks for either.
 pub fn run<I: Source, S: Store, K: Sink, C: Clock, N: NameSource>(
     alloc: Global,
     words: &[String],
@@ -38,35 +39,37 @@ pub fn run<I: Source, S: Store, K: Sink, C: Clock, N: NameSource>(
     ensures blame { let before : Counters = record { store = S.faults store.old; sink = K.faults out.old; source = I.faults script.old; names = N.faults names.old } in
         let now : Counters = record { store = S.faults store.new; sink = K.faults out.new; source = I.faults script.new; names = N.faults names.new } in
         Blames (status_of result) before now }
-    ensures ran { Ran words.now (I.left script.old) (S.files store.old) (S.files store.new) (K.written out.old) (K.written out.new) (status_of result) }
+    ensures ran { let old : Outside = record { files = S.files store.old; taken = S.taken store.old; names = N.given names.old; times = C.given clock.old } in
+        let new : Outside = record { files = S.files store.new; taken = S.taken store.new; names = N.given names.new; times = C.given clock.new } in
+        Ran words.now (I.left script.old) old new (K.written out.old) (K.written out.new) (status_of result) }
     ensures reads { ReadsSource (status_of result) (I.left script.old) (I.left script.new) }
-    ensures files { S.files store.new ≡ S.files store.old }
-    ensures taken { S.taken store.new ≡ S.taken store.old }
-    ensures clock { clock.new ≡ clock.old }
-    ensures names { names.new ≡ names.old }
+    ensures apart { IsBeforeStatements (status_of result) → (store.new ≡ store.old) × (clock.new ≡ clock.old) × (names.new ≡ names.old) }
 {
-    run_words(alloc, words, script, store, out).code()
+    run_words(alloc, words, script, store, out, clock, names).code()
 }
 
 // The run, up to its status.
-fn run_words<I: Source, S: Store, K: Sink>(
+fn run_words<I: Source, S: Store, K: Sink, C: Clock, N: NameSource>(
     alloc: Global,
     words: &[String],
     script: &mut I,
     store: &mut S,
     out: &mut K,
+    clock: &mut C,
+    names: &mut N,
 ) -> Status
-    ensures blame { let before : Counters = record { store = S.faults store.old; sink = K.faults out.old; source = I.faults script.old; names = 0 } in
-        let now : Counters = record { store = S.faults store.new; sink = K.faults out.new; source = I.faults script.new; names = 0 } in
+    ensures blame { let before : Counters = record { store = S.faults store.old; sink = K.faults out.old; source = I.faults script.old; names = N.faults names.old } in
+        let now : Counters = record { store = S.faults store.new; sink = K.faults out.new; source = I.faults script.new; names = N.faults names.new } in
         Blames result before now }
-    ensures ran { Ran words.now (I.left script.old) (S.files store.old) (S.files store.new) (K.written out.old) (K.written out.new) result }
+    ensures ran { let old : Outside = record { files = S.files store.old; taken = S.taken store.old; names = N.given names.old; times = C.given clock.old } in
+        let new : Outside = record { files = S.files store.new; taken = S.taken store.new; names = N.given names.new; times = C.given clock.new } in
+        Ran words.now (I.left script.old) old new (K.written out.old) (K.written out.new) result }
     ensures reads { ReadsSource result (I.left script.old) (I.left script.new) }
-    ensures files { S.files store.new ≡ S.files store.old }
-    ensures taken { S.taken store.new ≡ S.taken store.old }
+    ensures apart { IsBeforeStatements result → (store.new ≡ store.old) × (clock.new ≡ clock.old) × (names.new ≡ names.old) }
 {
     match what_is_due(alloc, words, script) {
         Ok(Due::Ends(outcome)) => end(out, &outcome),
-        Ok(Due::Runs(statements)) => run_statements(alloc, store, out, &statements),
+        Ok(Due::Runs(statements)) => run_statements(alloc, store, out, clock, names, &statements),
         Err(Halt::Source) => Status::SourceFailed,
         Err(Halt::Memory) => Status::NoMemory,
     }
@@ -92,12 +95,14 @@ fn what_is_due<I: Source>(alloc: Global, words: &[String], script: &mut I) -> Re
 
 // What a script that isn't too long makes due.
 fn due_of_script(alloc: Global, script: &[u8]) -> Result<Due, AllocError>
-    ensures due { IfOk result (λ what. what ≡ spec.due_of_script (script_statements script.now)) }
+    requires { length script.now ≤ max_script }
+    ensures due { IfOk result (λ what. IsDueOf script.now what) }
     ensures line { IfOk result EndsByLine }
 {
-    match statements_of(alloc, script)? {
-        Some(statements) => Ok(Due::Runs(statements)),
-        None => Ok(Due::Ends(Outcome::bad_script(alloc)?)),
+    match statements_of(alloc, script) {
+        Ok(statements) => Ok(Due::Runs(statements)),
+        Err(ScriptFault::BadScript { at }) => Ok(Due::Ends(Outcome::bad_script(alloc, at)?)),
+        Err(ScriptFault::Memory) => Err(AllocError),
     }
 }
 

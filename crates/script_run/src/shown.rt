@@ -3,14 +3,14 @@ ghost use Rattle.std.specs.Prelude.{◌≡◌, ◌++◌, ◌∷◌, [], OnOk, If
 ghost use Rattle.dm_text.specs.Printing.{field};
 ghost use Rattle.dm_store.specs.Causes.{Counts, StopCause};
 ghost use Rattle.script_run.specs.Shown as spec;
-ghost use Rattle.script_run.specs.Tells.{Tells};
+ghost use Rattle.table_load.specs.Tells.{Tells};
 
-use crate::log::load_commits;
 use dm_store::Store;
 use dm_text::print_field;
 use dm_types::{Bytes, DataType, Stop, Text, TextList, Value, sort_texts};
 use log_replay::live_paths;
 use std::alloc::{AllocError, Global};
+use table_load::load_log;
 
 /// The text of SHOW FILES: a line for each live file of the newest version, its path as logged, in
 /// byte order of the paths.
@@ -24,7 +24,7 @@ pub(crate) fn show_files<S: Store>(
     ensures cause { Counts StopCause (S.faults store.old) (S.faults store.new) result }
     ensures taken { S.taken store.new ≡ S.taken store.old }
 {
-    let commits = load_commits(alloc, store, table)?;
+    let commits = load_log(alloc, store, table, None)?;
     let mut paths = live_paths(alloc, &commits)?;
     sort_texts(&mut paths);
     Ok(path_lines(alloc, &paths)?)

@@ -9,6 +9,11 @@ pub enum Statement {
         /// The table's name.
         table: Text,
     },
+    /// `DELETE FROM table`: removes all rows, as a new version.
+    Delete {
+        /// The table's name.
+        table: Text,
+    },
 }
 
 /// The statements of a script, in order.

@@ -1,37 +1,40 @@
 // Running the statements of a script in turn.
-ghost use Rattle.std.specs.Prelude.{◌≡◌};
-ghost use Rattle.dm_store.specs.Causes.{Counts, StopCause};
+ghost use Rattle.dm_store.specs.Causes.{Counts, StopCause, DrawCause};
+ghost use Rattle.table_write.specs.Outside.{Outside};
 ghost use Rattle.script_run.specs.Ran.{Counters, Blames};
 ghost use Rattle.script_run.specs.Reaching.{RunsOne, RunsAll, BlamesOne};
-ghost use Rattle.script_run.specs.Running.{Answered};
+ghost use Rattle.script_run.specs.Running.{Answers};
 
 use crate::outcome::refusal_line;
 use crate::shown::show_files;
 use crate::statement::{Statement, Statements};
 use crate::status::Status;
-use dm_store::{Sink, Store};
+use dm_store::{Clock, NameSource, Sink, Store};
 use dm_types::{Bytes, Stop};
 use std::alloc::Global;
+use table_write::delete_from;
 
 /// Runs statement after statement. The text of each is written in one piece after it; the first
 /// refusal ends the run with a line.
-pub(crate) fn run_statements<S: Store, K: Sink>(
+pub(crate) fn run_statements<S: Store, K: Sink, C: Clock, N: NameSource>(
     alloc: Global,
     store: &mut S,
     out: &mut K,
+    clock: &mut C,
+    names: &mut N,
     statements: &Statements,
 ) -> Status
-    ensures runs { RunsAll statements.now (S.files store.old) (S.files store.new) (K.written out.old) (K.written out.new) result }
-    ensures blame { let before : Counters = record { store = S.faults store.old; sink = K.faults out.old; source = 0; names = 0 } in
-        let now : Counters = record { store = S.faults store.new; sink = K.faults out.new; source = 0; names = 0 } in
+    ensures runs { let old : Outside = record { files = S.files store.old; taken = S.taken store.old; names = N.given names.old; times = C.given clock.old } in
+        let new : Outside = record { files = S.files store.new; taken = S.taken store.new; names = N.given names.new; times = C.given clock.new } in
+        RunsAll statements.now old new (K.written out.old) (K.written out.new) result }
+    ensures blame { let before : Counters = record { store = S.faults store.old; sink = K.faults out.old; source = 0; names = N.faults names.old } in
+        let now : Counters = record { store = S.faults store.new; sink = K.faults out.new; source = 0; names = N.faults names.new } in
         Blames result before now }
-    ensures files { S.files store.new ≡ S.files store.old }
-    ensures taken { S.taken store.new ≡ S.taken store.old }
 {
     let mut number = 0;
     for statement in statements.as_slice() {
         number += 1;
-        if let Err(status) = run_numbered(alloc, store, out, number, statement) {
+        if let Err(status) = run_numbered(alloc, store, out, clock, names, number, statement) {
             return status;
         }
     }
@@ -39,21 +42,23 @@ pub(crate) fn run_statements<S: Store, K: Sink>(
 }
 
 // Runs the statement of this number, and writes its text or the line of its refusal.
-fn run_numbered<S: Store, K: Sink>(
+fn run_numbered<S: Store, K: Sink, C: Clock, N: NameSource>(
     alloc: Global,
     store: &mut S,
     out: &mut K,
+    clock: &mut C,
+    names: &mut N,
     number: u64,
     statement: &Statement,
 ) -> Result<(), Status>
-    ensures runs { RunsOne number statement.now (S.files store.old) (S.files store.new) (K.written out.old) (K.written out.new) result }
-    ensures blame { let before : Counters = record { store = S.faults store.old; sink = K.faults out.old; source = 0; names = 0 } in
-        let now : Counters = record { store = S.faults store.new; sink = K.faults out.new; source = 0; names = 0 } in
+    ensures runs { let old : Outside = record { files = S.files store.old; taken = S.taken store.old; names = N.given names.old; times = C.given clock.old } in
+        let new : Outside = record { files = S.files store.new; taken = S.taken store.new; names = N.given names.new; times = C.given clock.new } in
+        RunsOne number statement.now old new (K.written out.old) (K.written out.new) result }
+    ensures blame { let before : Counters = record { store = S.faults store.old; sink = K.faults out.old; source = 0; names = N.faults names.old } in
+        let now : Counters = record { store = S.faults store.new; sink = K.faults out.new; source = 0; names = N.faults names.new } in
         BlamesOne before now result }
-    ensures files { S.files store.new ≡ S.files store.old }
-    ensures taken { S.taken store.new ≡ S.taken store.old }
 {
-    match run_statement(alloc, store, statement) {
+    match run_statement(alloc, store, clock, names, statement) {
         Ok(text) => Ok(out.put(text.as_slice())?),
         Err(Stop::Refused(why)) => {
             let line = refusal_line(alloc, number, &why)?;
@@ -61,22 +66,27 @@ fn run_numbered<S: Store, K: Sink>(
             Err(Status::Refused)
         }
         Err(Stop::Store) => Err(Status::StoreFailed),
+        Err(Stop::Names) => Err(Status::NamesFailed),
         Err(Stop::Memory) => Err(Status::NoMemory),
     }
 }
 
 // The text of a statement.
-fn run_statement<S: Store>(
+fn run_statement<S: Store, C: Clock, N: NameSource>(
     alloc: Global,
     store: &mut S,
+    clock: &mut C,
+    names: &mut N,
     statement: &Statement,
 ) -> Result<Bytes, Stop>
-    ensures answer { Answered statement.now (S.files store.old) (S.files store.new) result }
+    ensures answer { let old : Outside = record { files = S.files store.old; taken = S.taken store.old; names = N.given names.old; times = C.given clock.old } in
+        let new : Outside = record { files = S.files store.new; taken = S.taken store.new; names = N.given names.new; times = C.given clock.new } in
+        Answers statement.now old result new }
     ensures cause { Counts StopCause (S.faults store.old) (S.faults store.new) result }
-    ensures files { S.files store.new ≡ S.files store.old }
-    ensures taken { S.taken store.new ≡ S.taken store.old }
+    ensures draws { Counts DrawCause (N.faults names.old) (N.faults names.new) result }
 {
     match statement {
         Statement::ShowFiles { table } => show_files(alloc, store, table),
+        Statement::Delete { table } => delete_from(alloc, store, clock, names, table),
     }
 }

@@ -1,4 +1,6 @@
 // Whole runs over objects in memory.
+mod deletes;
+
 use crate::run;
 use dm_store::{MemoryClock, MemoryNames, MemorySink, MemorySource, MemoryStore, Store};
 use dm_types::{Bytes, CountList, NameList, WholeList};
@@ -307,8 +309,9 @@ fn shows_the_live_files(rt: HostRuntime) -> Result<(), Fail> {
     Ok(())
 }
 
-// Scripts over an empty store: a script of the grammar is refused for want of a table.
-const SCRIPTS: [(&str, &str); 28] = [
+// Scripts over an empty store: a script of the grammar is refused for want of a table, and another
+// one at the first token that can't stand, or at its end.
+const SCRIPTS: [(&str, &str); 36] = [
     ("SHOW FILES t;", "refused 1: O1\n"),
     ("show files t ;", "refused 1: O1\n"),
     (
@@ -318,36 +321,44 @@ const SCRIPTS: [(&str, &str); 28] = [
     ("SHOW FILES FILES;", "refused 1: O1\n"),
     ("SHOW FILES-t;", "refused 1: O1\n"),
     ("SHOW FILES--c\nt--c\n;", "refused 1: O1\n"),
+    ("DELETE FROM t;", "refused 1: O1\n"),
+    ("delete From from;SHOW FILES t;", "refused 1: O1\n"),
     ("", ""),
     (" --SHOW FILES t;", ""),
     ("SHOW FILES t;SHOW FILES u;", "refused 1: O1\n"),
     ("SHOW FILES t;--\n SHOW FILES u;--", "refused 1: O1\n"),
-    ("SHOW FILES t", "refused 0: P1 0\n"),
-    ("SHOW FILES t;;", "refused 0: P1 0\n"),
-    ("SHOW FILES t; SHOW FILES", "refused 0: P1 0\n"),
+    ("SHOW FILES t", "refused 0: P1 12\n"),
+    ("SHOW FILES t;;", "refused 0: P1 13\n"),
+    ("SHOW FILES t; SHOW FILES", "refused 0: P1 24\n"),
     (
         "SHOW FILES t; SHOW FILES u SHOW FILES t;",
-        "refused 0: P1 0\n",
+        "refused 0: P1 27\n",
     ),
     (";", "refused 0: P1 0\n"),
-    ("SHOW FILES t --;", "refused 0: P1 0\n"),
+    ("SHOW FILES t --;", "refused 0: P1 16\n"),
     ("SHOWFILES t;", "refused 0: P1 0\n"),
-    ("SHOW FILESt;", "refused 0: P1 0\n"),
-    ("SHOW FILES_ t;", "refused 0: P1 0\n"),
-    ("SHOW FILES ;", "refused 0: P1 0\n"),
-    ("SHOW FILES .t;", "refused 0: P1 0\n"),
-    ("SHOW FILES `t`;", "refused 0: P1 0\n"),
-    ("SHOW FILES t u;", "refused 0: P1 0\n"),
-    ("SHOW FILES t/u;", "refused 0: P1 0\n"),
-    ("SHOW FILES \u{e9};", "refused 0: P1 0\n"),
-    ("SHOW\u{b}FILES t;", "refused 0: P1 0\n"),
+    ("SHOW FILESt;", "refused 0: P1 5\n"),
+    ("SHOW FILES_ t;", "refused 0: P1 5\n"),
+    ("SHOW FILES ;", "refused 0: P1 11\n"),
+    ("SHOW FILES .t;", "refused 0: P1 11\n"),
+    ("SHOW FILES `t`;", "refused 0: P1 11\n"),
+    ("SHOW FILES t u;", "refused 0: P1 13\n"),
+    ("SHOW FILES t/u;", "refused 0: P1 12\n"),
+    ("SHOW FILES \u{e9};", "refused 0: P1 11\n"),
+    ("SHOW\u{b}FILES t;", "refused 0: P1 4\n"),
+    ("SHOW IDENTITIES t;", "refused 0: P1 5\n"),
+    ("DELETE t;", "refused 0: P1 7\n"),
+    ("DELETE FROM", "refused 0: P1 11\n"),
+    ("DELETE FROM t FROM u;", "refused 0: P1 14\n"),
+    ("DELETE FROM t WHERE TRUE;", "refused 0: P1 14\n"),
+    ("SHOW FILES t; DELETE", "refused 0: P1 20\n"),
     (
         "SHOW FILES 1234567890123456789012345678901234567890123456789012345678901234567890123456789012345678901234567890;",
         "refused 1: O1\n",
     ),
     (
         "SHOW FILES 12345678901234567890123456789012345678901234567890123456789012345678901234567890123456789012345678901;",
-        "refused 0: P1 0\n",
+        "refused 0: P1 11\n",
     ),
 ];
 
@@ -361,7 +372,7 @@ fn reads_scripts(rt: HostRuntime) -> Result<(), Fail> {
     // A comment that isn't UTF-8; the longest script, and one byte more.
     let bad = Bytes::from_slice(rt.alloc(), b"SHOW FILES t;--\xff")?;
     assert!(rt;
-        ran(rt.alloc(), &[], &NONE, &[], bad)?.1.as_slice() == "refused 0: P1 0\n".as_bytes()
+        ran(rt.alloc(), &[], &NONE, &[], bad)?.1.as_slice() == "refused 0: P1 13\n".as_bytes()
     );
     for (length, ended, text) in [(1_048_576, 0, ""), (1_048_577, 3, "refused 0: P2\n")] {
         let spaces = Bytes::from_vec(vec![in rt.alloc(); b' '; length]?);

@@ -1,8 +1,6 @@
-use Rattle.script_run.proofs.Reader.{of_text, of_no_text}
+use Rattle.std.proofs.Common.{rules}
+use Rattle.script_run.proofs.Starting.{not_read}
 use Rattle.script_run.proofs.script.statements_of.Goals as goal
 
-pub returns-then-is_text : goal.returns-then-is_text
-returns-then-is_text c = rw (of_text c.args.script.now c.is_text.result c.is_text.ensures c.if-is_text.true) c.read_statements.ensures
-
-pub returns-else-is_text : goal.returns-else-is_text
-returns-else-is_text c = of_no_text c.args.script.now c.is_text.result c.is_text.ensures c.if-is_text.false
+pub returns-in_err-parsed : goal.returns-in_err-parsed
+returns-in_err-parsed c = not_read c.args.script.now c.in_err-parsed.field-0.0 c.from_residual.result (search rules) c.in_err-parsed.ensures.only c.in_err-parsed.ensures.place

@@ -1,5 +1,5 @@
 use Rattle.std.proofs.Common.{rules, Ok, Err}
-use Rattle.script_run.proofs.Turns.{put_fails, put_refused, line_unmade, store_fails, memory_fails}
+use Rattle.script_run.proofs.Turns.{put_fails, put_refused, line_unmade, store_fails, names_fail, memory_fails}
 use Rattle.script_run.proofs.statements.run_numbered.Goals as goal
 
 pub returns-in_err-put-in-Ok-clause-runs : goal.returns-in_err-put-in-Ok-clause-runs
@@ -20,6 +20,9 @@ returns-in_ok-put-in-Err-Refused-clause-runs g c =
 
 pub returns-in-Err-Store-clause-runs : goal.returns-in-Err-Store-clause-runs
 returns-in-Err-Store-clause-runs g c = store_fails c.args.number c.args.statement.now _ _ _ (rw c.in-Err-Store.field-0-is at c.in-Err-Store.ensures.answer)
+
+pub returns-in-Err-Names-clause-runs : goal.returns-in-Err-Names-clause-runs
+returns-in-Err-Names-clause-runs g c = names_fail c.args.number c.args.statement.now _ _ _ (rw c.in-Err-Names.field-0-is at c.in-Err-Names.ensures.answer)
 
 pub returns-in-Err-Memory-clause-runs : goal.returns-in-Err-Memory-clause-runs
 returns-in-Err-Memory-clause-runs g c = memory_fails c.args.number c.args.statement.now _ _ _ (rw c.in-Err-Memory.field-0-is at c.in-Err-Memory.ensures.answer)

@@ -1,0 +1,38 @@
+-- How a refusal is printed: its code, and its fields behind it.
+use Rattle.std.specs.Prelude.{ℕ, List, ◌++◌, codes}
+use Rattle.std.specs.Fmt.{decimal}
+use Rattle.dm_types.specs.declared.refusal.Counted.{Counted}
+use Rattle.dm_types.specs.declared.refusal.Counted.TheVariants as counted
+use Rattle.dm_types.specs.declared.refusal.Refused.{Refused}
+use Rattle.dm_types.specs.declared.refusal.Refused.TheVariants as refused
+use Rattle.dm_types.specs.declared.refusal.StatementRefusal.{StatementRefusal}
+use Rattle.dm_types.specs.declared.refusal.StatementRefusal.TheVariants as statement
+use Rattle.dm_types.specs.declared.refusal.TableRefusal.{TableRefusal}
+use Rattle.dm_types.specs.declared.refusal.TableRefusal.TheVariants as table
+use Rattle.dm_text.specs.Printing.{field}
+
+abbrev pub counted_name : Counted → List ℕ
+counted_name counted.Commits = codes "commits"
+
+-- numbers in decimal, texts as fields
+abbrev pub table_cause : TableRefusal → List ℕ
+table_cause table.NoTable = codes "O1"
+table_cause (table.LogGap version) = codes "O2" ++ codes " " ++ decimal version
+table_cause (table.BadAction version line) = codes "O3" ++ codes " " ++ decimal version ++ codes " " ++ decimal line
+table_cause (table.ProtocolUnsupported reader writer) = codes "O4" ++ codes " " ++ decimal reader ++ codes " " ++ decimal writer
+table_cause (table.UnknownFeature name) = codes "O5" ++ codes " " ++ field name
+table_cause table.NoMetadata = codes "O6"
+table_cause (table.DeletionVector path) = codes "O10" ++ codes " " ++ field path
+table_cause (table.TooLarge counted) = codes "O20" ++ codes " " ++ counted_name counted
+table_cause (table.NoSuchVersion version) = codes "O21" ++ codes " " ++ decimal version
+table_cause (table.UnsupportedRule name) = codes "O22" ++ codes " " ++ field name
+
+abbrev pub statement_cause : StatementRefusal → List ℕ
+statement_cause statement.AppendOnly = codes "S4"
+statement_cause statement.RowTrackingOff = codes "S5"
+statement_cause (statement.NameTaken path) = codes "S16" ++ codes " " ++ field path
+statement_cause (statement.VersionTaken version) = codes "S17" ++ codes " " ++ decimal version
+
+abbrev pub refused_cause : Refused → List ℕ
+refused_cause (refused.Table refusal) = table_cause refusal
+refused_cause (refused.Statement refusal) = statement_cause refusal

@@ -1,0 +1,87 @@
+// How a refusal is printed.
+ghost use Rattle.std.specs.Prelude.{◌≡◌, ◌++◌, IfOk, codes};
+ghost use Rattle.std.specs.Fmt.{decimal};
+ghost use Rattle.dm_types.specs.declared.refusal.TableRefusal.TheVariants as table;
+ghost use Rattle.script_run.specs.Refusals as spec;
+ghost use Rattle.dm_text.specs.Printing.{field as field_of};
+
+use dm_text::print_field;
+use dm_types::{Bytes, Counted, DataType, Refused, StatementRefusal, TableRefusal, Text, Value};
+use std::alloc::{AllocError, Global};
+
+/// The code of a refusal, and its fields behind it: numbers in decimal, texts as fields.
+pub(crate) fn cause_of(alloc: Global, why: &Refused) -> Result<Bytes, AllocError>
+    ensures { IfOk result (λ cause. cause ≡ spec.refused_cause why.now) }
+{
+    match why {
+        Refused::Table(refusal) => table_cause(alloc, refusal),
+        Refused::Statement(refusal) => statement_cause(alloc, refusal),
+    }
+}
+
+fn table_cause(alloc: Global, refusal: &TableRefusal) -> Result<Bytes, AllocError>
+    ensures { IfOk result (λ cause. cause ≡ spec.table_cause refusal.now) }
+{
+    match refusal {
+        TableRefusal::NoTable => Bytes::from_slice(alloc, b"O1"),
+        TableRefusal::LogGap { version } => with_number(alloc, "O2", *version),
+        TableRefusal::BadAction { version, line } => with_numbers(alloc, "O3", *version, *line),
+        TableRefusal::ProtocolUnsupported { reader, writer } => {
+            with_numbers(alloc, "O4", u64::from(*reader), u64::from(*writer))
+        }
+        TableRefusal::UnknownFeature { name } => with_text(alloc, "O5", name),
+        TableRefusal::NoMetadata => Bytes::from_slice(alloc, b"O6"),
+        TableRefusal::DeletionVector { path } => with_text(alloc, "O10", path),
+        TableRefusal::TooLarge { counted } => too_large(alloc, *counted),
+        TableRefusal::NoSuchVersion { version } => with_number(alloc, "O21", *version),
+        TableRefusal::UnsupportedRule { name } => with_text(alloc, "O22", name),
+    }
+}
+
+fn too_large(alloc: Global, counted: Counted) -> Result<Bytes, AllocError>
+    ensures { IfOk result (λ cause. cause ≡ spec.table_cause (table.TooLarge counted)) }
+{
+    match counted {
+        Counted::Commits => Bytes::from_slice(alloc, b"O20 commits"),
+    }
+}
+
+fn statement_cause(alloc: Global, refusal: &StatementRefusal) -> Result<Bytes, AllocError>
+    ensures { IfOk result (λ cause. cause ≡ spec.statement_cause refusal.now) }
+{
+    match refusal {
+        StatementRefusal::AppendOnly => Bytes::from_slice(alloc, b"S4"),
+        StatementRefusal::RowTrackingOff => Bytes::from_slice(alloc, b"S5"),
+        StatementRefusal::NameTaken { path } => with_text(alloc, "S16", path),
+        StatementRefusal::VersionTaken { version } => with_number(alloc, "S17", *version),
+    }
+}
+
+// A code and a number.
+fn with_number(alloc: Global, code: &str, number: u64) -> Result<Bytes, AllocError>
+    ensures { IfOk result (λ cause. cause ≡ code.now ++ codes " " ++ decimal number) }
+{
+    let cause = format!(in alloc; "{code} {number}")?;
+    Ok(Bytes::from_vec(cause.into_bytes()))
+}
+
+// A code and two numbers.
+fn with_numbers(alloc: Global, code: &str, first: u64, second: u64) -> Result<Bytes, AllocError>
+    ensures { IfOk result (λ cause. cause ≡ code.now ++ codes " " ++ decimal first ++ codes " " ++ decimal second) }
+{
+    let mut cause = with_number(alloc, code, first)?;
+    let second = format!(in alloc; " {second}")?;
+    cause.extend_from_slice(second.as_bytes())?;
+    Ok(cause)
+}
+
+// A code and a text.
+fn with_text(alloc: Global, code: &str, text: &Text) -> Result<Bytes, AllocError>
+    ensures { IfOk result (λ cause. cause ≡ code.now ++ codes " " ++ field_of text.now) }
+{
+    let mut cause = Bytes::from_slice(alloc, code.as_bytes())?;
+    cause.push(b' ')?;
+    let field = Value::Text(Text::from_str(alloc, text.as_str())?);
+    print_field(alloc, &field, &DataType::Str, &mut cause)?;
+    Ok(cause)
+}
