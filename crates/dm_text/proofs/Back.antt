@@ -17,8 +17,8 @@ use Rattle.dm_text.specs.Numbers.{numeral, decimal_number}
 use Rattle.dm_text.specs.Calendar.{calendar_day, date, Parts}
 use Rattle.dm_text.specs.Moments.{clock, behind_second, moment, timestamp}
 use Rattle.dm_text.specs.Reading.{truth, text_value}
-use Rattle.dm_text.specs.Ranges.{IsInRange, IsText, the_day}
-use Rattle.dm_text.specs.Printing.{places, decimal_text, printed, date_text, parts_text, clock_text, day_part, clock_part}
+use Rattle.dm_types.specs.Ranges.{IsInRange, IsText, day_part, the_day}
+use Rattle.dm_text.specs.Printing.{places, decimal_text, printed, date_text, parts_text, clock_text, clock_part}
 use Rattle.dm_text.proofs.Spelled.{whole_read, decimal_back, numeral_places, fraction_read}
 use Rattle.dm_text.proofs.Days.{date_text_is}
 use Rattle.dm_text.proofs.InRange.{civil_of}

@@ -10,7 +10,7 @@ use Rattle.jiff_core.proofs.MarchLemmas.{day_count-early}
 use Rattle.jiff_core.proofs.CalendarLemmas.{days_from_civil-day_count, day_count-lt_year, day_count-lt_month, day_count-day, day_count-day_of_year}
 use Rattle.jiff_core.proofs.DateLemmas.{civil}
 use Rattle.dm_text.specs.Calendar.{greatest, is_at_or_before, year_of, month_in, month_of, day_in, day_of, is_calendar_date, Parts}
-use Rattle.dm_text.specs.Ranges.{IsDay}
+use Rattle.dm_types.specs.Ranges.{IsDay}
 use Rattle.dm_text.specs.Printing.{date_text, parts_text}
 
 greatest_is : (test : ℕ → Bool) (most k : ℕ) → 1 ≤ k → k ≤ most → test k ≡ true → ((j : ℕ) → k < j → j ≤ most → test j ≡ false) → greatest test most ≡ k

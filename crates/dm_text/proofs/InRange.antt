@@ -24,8 +24,7 @@ use Rattle.dm_text.specs.Numbers.{numeral, numeral_below, below, with_sign, sign
 use Rattle.dm_text.specs.Calendar.{is_calendar_date, calendar_day, date, number_in}
 use Rattle.dm_text.specs.Moments.{clock, behind_second, moment, timestamp, ends_in_z}
 use Rattle.dm_text.specs.Reading.{truth, text_value}
-use Rattle.dm_text.specs.Ranges.{IsWellFormed, IsDay, IsInRange}
-use Rattle.dm_text.specs.Printing.{day_part}
+use Rattle.dm_types.specs.Ranges.{IsWellFormed, IsDay, IsInRange, day_part}
 use Rattle.dm_text.proofs.Powers.{power_some, scaled}
 use Rattle.dm_text.proofs.Points.{fraction_bound}
 use Rattle.dm_text.proofs.Days.{first_count, starts}

@@ -12,9 +12,6 @@ power_grows i k = rw (pow-add 10 i k) (omega (arith, mul-le-mul_left (10 ^ i) (p
 pub power_le : (i j : ℕ) → i ≤ j → 10 ^ i ≤ 10 ^ j
 power_le i j less = let e : i + (j - i) ≡ j = omega arith in subst (λ n. 10 ^ i ≤ 10 ^ n) e (power_grows i (j - i))
 
-pub power_fits : (k : ℕ) → k ≤ 38 → 10 ^ k < 2 ^ 128
-power_fits k small = omega (arith, power_le k 38 small)
-
 -- a number below a power, in units of a smaller place
 pub scaled : (n r s : ℕ) → n < 10 ^ r → n * 10 ^ s + 10 ^ s ≤ 10 ^ (r + s)
 scaled n r s less =

@@ -3,5 +3,4 @@ pub mod Calendar
 pub mod Moments
 pub mod Reading
 pub mod Printing
-pub mod Ranges
 pub mod Answers

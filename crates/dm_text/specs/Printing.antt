@@ -2,7 +2,8 @@
 use Rattle.std.specs.Prelude.{ℕ, zero, suc, ◌+◌, ◌/◌, ◌%◌, ◌^◌, ◌==◌, ℤ, pos, unsigned_abs, List, [], ◌∷◌, ◌++◌, Bool, false, codes, if◌then◌else◌}
 use Rattle.std.specs.List.{flat_map}
 use Rattle.std.specs.Fmt.{decimal, signed_decimal, digit_glyph, sign_text}
-use Rattle.std.specs.Int.{is_negative, int_div_euclid, int_rem_euclid}
+use Rattle.std.specs.Int.{is_negative, int_rem_euclid}
+use Rattle.dm_types.specs.Ranges.{day_part}
 use Rattle.dm_types.specs.declared.value.Value.{Value}
 use Rattle.dm_types.specs.declared.value.Value.TheVariants as value
 use Rattle.dm_text.specs.Calendar.{year_of, month_of, day_of}
@@ -39,9 +40,7 @@ date_text n = parts_text (year_of n) (month_of n) (day_of n)
 unfoldable pub clock_text : ℕ → List ℕ
 clock_text t = places 2 (t / 3_600_000_000) ++ (58 ∷ places 2 (t / 60_000_000 % 60)) ++ (58 ∷ places 2 (t / 1_000_000 % 60)) ++ (46 ∷ places 6 t)
 
-abbrev pub day_part : ℤ → ℤ
-day_part n = int_div_euclid n (pos 86_400_000_000)
-
+-- the microseconds of a moment's day
 abbrev pub clock_part : ℤ → ℕ
 clock_part n = unsigned_abs (int_rem_euclid n (pos 86_400_000_000))
 

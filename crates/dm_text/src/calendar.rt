@@ -4,7 +4,7 @@ ghost use Rattle.jiff_core.specs.Calendar.{IsEpochDay};
 ghost use Rattle.dm_text.specs.Calendar as spec;
 ghost use Rattle.dm_text.specs.Calendar.{Parts};
 ghost use Rattle.dm_text.specs.Printing.{date_text, parts_text};
-ghost use Rattle.dm_text.specs.Ranges.{IsDay};
+ghost use Rattle.dm_types.specs.Ranges.{IsDay};
 
 use crate::digits::{push_places, read_between};
 use dm_types::Bytes;

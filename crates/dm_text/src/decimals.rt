@@ -5,8 +5,8 @@ ghost use Rattle.dm_text.specs.Numbers as spec;
 ghost use Rattle.dm_text.specs.Printing.{decimal_text};
 ghost use Rattle.dm_types.specs.declared.value.Decimal.{Decimal};
 
-use crate::digits::{push_places, read_digits, read_few, split_sign, ten_to, with_sign};
-use dm_types::{Bytes, Decimal};
+use crate::digits::{push_places, read_digits, read_few, split_sign, with_sign};
+use dm_types::{Bytes, Decimal, ten_to};
 use itoa::Buffer;
 use std::alloc::AllocError;
 

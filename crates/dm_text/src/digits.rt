@@ -7,7 +7,7 @@ ghost use Rattle.dm_text.specs.Calendar.{number_in};
 ghost use Rattle.dm_text.specs.Numbers as spec;
 ghost use Rattle.dm_text.specs.Printing.{places};
 
-use dm_types::Bytes;
+use dm_types::{Bytes, ten_to};
 use std::alloc::AllocError;
 use std::str;
 
@@ -51,7 +51,7 @@ pub(crate) fn read_between(text: &[u8], from: usize, to: usize) -> Option<u128>
 /// Whether a text begins with `-`, and what stands behind its sign.
 pub(crate) fn split_sign(text: &[u8]) -> (bool, &[u8])
     ensures minus { result.0 ≡ starts_with_minus text.now }
-    ensures size { result.1.now ≡ without_leading_sign text.now }
+    ensures rest { result.1.now ≡ without_leading_sign text.now }
 {
     match text.first() {
         Some(b'-') => (true, &text[1..]),
@@ -90,14 +90,6 @@ pub(crate) fn read_whole(text: &[u8], bits: u32) -> Option<i64>
     let (minus, digits) = split_sign(text);
     let size = read_digits(digits)?;
     keep_within(minus, size, bits)
-}
-
-/// Ten to a power.
-pub(crate) fn ten_to(power: u8) -> u128
-    requires { power ≤ 38 }
-    ensures { result ≡ 10 ^ power }
-{
-    10u128.pow(u32::from(power))
 }
 
 /// Adds the last digits of a number, so many.

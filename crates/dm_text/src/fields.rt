@@ -1,7 +1,7 @@
 // Fields of a line.
 ghost use Rattle.std.specs.Prelude.{◌≡◌, ◌++◌, OnOk, OnErr, IfOk};
 ghost use Rattle.dm_text.specs.Printing as spec;
-ghost use Rattle.dm_text.specs.Ranges.{IsNullOrInRange};
+ghost use Rattle.dm_types.specs.Ranges.{IsNullOrInRange};
 
 use crate::printing::value_text;
 use dm_types::{Bytes, DataType, Value};

@@ -1,7 +1,7 @@
 // What is printed of a value, and what is read of it.
 ghost use Rattle.std.specs.Prelude.{◌≡◌, ◌≢◌, Some};
-ghost use Rattle.dm_text.specs.Printing.{day_part, printed};
-ghost use Rattle.dm_text.specs.Ranges.{IsDay, IsInRange, IsText, the_day};
+ghost use Rattle.dm_text.specs.Printing.{printed};
+ghost use Rattle.dm_types.specs.Ranges.{IsDay, IsInRange, IsText, day_part, the_day};
 ghost use Rattle.dm_text.specs.Reading.{text_value};
 ghost use Rattle.dm_types.specs.declared.value.DataType.TheVariants.{Binary};
 

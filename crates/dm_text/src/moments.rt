@@ -2,8 +2,8 @@
 ghost use Rattle.jiff_core.specs.Calendar.{IsEpochDay};
 ghost use Rattle.std.specs.Prelude.{pos, ◌+ℤ◌, ◌*ℤ◌, ◌≡◌, ◌<◌, ◌≤◌, ◌+◌, ◌++◌, ◌∷◌, length, IfSome, OnOk};
 ghost use Rattle.dm_text.specs.Moments as spec;
-ghost use Rattle.dm_text.specs.Printing.{clock_text, day_part, clock_part, date_text};
-ghost use Rattle.dm_text.specs.Ranges.{IsDay};
+ghost use Rattle.dm_text.specs.Printing.{clock_text, clock_part, date_text};
+ghost use Rattle.dm_types.specs.Ranges.{IsDay, day_part};
 
 use crate::calendar::{push_date, read_date};
 use crate::decimals::read_fraction;

@@ -3,7 +3,7 @@ ghost use Rattle.std.specs.Prelude.{◌≡◌, ◌<◌, ◌++◌, false, OnOk, O
 ghost use Rattle.std.specs.Fmt.{digit_glyph};
 ghost use Rattle.std.specs.List.{flat_map};
 ghost use Rattle.dm_text.specs.Printing as spec;
-ghost use Rattle.dm_text.specs.Ranges.{IsInRange};
+ghost use Rattle.dm_types.specs.Ranges.{IsInRange};
 
 use crate::calendar::push_date;
 use crate::decimals::push_decimal;

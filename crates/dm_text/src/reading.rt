@@ -1,7 +1,7 @@
 // Values from their texts.
 ghost use Rattle.std.specs.Prelude.{◌≡◌, IfOk};
 ghost use Rattle.dm_text.specs.Answers.{ReadsText};
-ghost use Rattle.dm_text.specs.Ranges.{IsInRange, IsWellFormed};
+ghost use Rattle.dm_types.specs.Ranges.{IsInRange, IsWellFormed};
 ghost use Rattle.dm_text.specs.Reading as spec;
 ghost use Rattle.dm_types.specs.declared.value.Value.{Value};
 ghost use Rattle.dm_types.specs.declared.value.DataType.TheVariants as kind;

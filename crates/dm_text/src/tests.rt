@@ -1,5 +1,5 @@
 // Texts of each type, read and printed.
-ghost use Rattle.dm_text.specs.Ranges.{IsWellFormed, IsNullOrInRange};
+ghost use Rattle.dm_types.specs.Ranges.{IsWellFormed, IsNullOrInRange};
 
 use crate::{print_field, print_value, read_value};
 use dm_types::{Bytes, DataType, Text, Value, same};

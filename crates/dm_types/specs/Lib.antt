@@ -4,3 +4,4 @@ pub mod Value
 pub mod Lanes
 pub mod LaneLaws
 pub mod Scaled
+pub mod Ranges

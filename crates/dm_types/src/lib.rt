@@ -9,6 +9,7 @@ mod items;
 mod lane;
 mod lanes;
 mod order;
+mod powers;
 mod refusal;
 mod text;
 mod value;
@@ -21,8 +22,9 @@ pub use lanes::{
     LaneBool, LaneByte, LaneBytes, LaneDecimal, LaneInt, LaneLong, LaneShort, LaneText,
 };
 pub use order::sort_texts;
+pub use powers::ten_to;
 pub use refusal::{Counted, Refused, StatementRefusal, Stop, TableRefusal};
-pub use text::Text;
+pub use text::{Text, is_text};
 pub use value::{DataType, Decimal, Value};
 
 /// Bytes, of a file or of a text.

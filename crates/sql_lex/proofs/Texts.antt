@@ -1,17 +1,11 @@
 -- Tests of texts.
-use Rattle.std.proofs.Common.{◌≡◌, ◌∙◌, ℕ, List, Bool, true, false, Option, Some, None, Result, Ok, Err, sym, ap, refl}
-use Rattle.std.specs.Prelude.{IsTrue, IsSome, IfSome, if◌then◌else◌, IsUtf8, MatchResult, is_ok, ◌↔◌}
+use Rattle.std.proofs.Common.{◌≡◌, ℕ, List, Bool, true, false, Option, Some, None, ap, refl}
+use Rattle.std.specs.Prelude.{IsTrue, IsSome, IfSome, if◌then◌else◌, IsUtf8, ◌↔◌}
 use Rattle.std.specs.Cmp.{both_ways}
 use Rattle.std.specs.Str.{bytes_eq, is_utf8}
 use Rattle.std.proofs.lemmas.Slice.Eq.{bytes_eq-Decides}
 use Rattle.sql_lex.specs.Content.{if_text}
 use Rattle.std.proofs.lemmas.Str.{IsUtf8-from_is_utf8, is_utf8-from_IsUtf8}
-
--- a test that tells whether bytes are text
-pub text_test : {T E : Type 0} (answer : Result T E) (P : T → Type 0) (Q : E → Type 0) (test : Bool) (bytes : List ℕ) → MatchResult answer (λ text. P text × IsUtf8 bytes) (λ fault. ¬ (IsUtf8 bytes) × Q fault) → test ≡ is_ok answer → test ≡ is_utf8 bytes
-text_test (Ok text) P Q test bytes is tested = tested ∙ sym (is_utf8-from_IsUtf8 bytes is.1)
-text_test (Err fault) P Q test bytes is tested =
-    tested ∙ both_ways false (is_utf8 bytes) (λ wrong. absurd (let e : false ≡ true = wrong in cc)) (λ text. absurd (is.0 (IsUtf8-from_is_utf8 bytes text)))
 
 -- a test that tells whether two texts are the same
 pub same_test : (test : Bool) (xs ys : List ℕ) → (IsTrue test ↔ (xs ≡ ys)) → test ≡ bytes_eq xs ys

@@ -1,6 +1,5 @@
 // Bytes by their class.
 ghost use Rattle.std.specs.Prelude.{◌≡◌, ◌&&◌, ◌||◌, ◌<◌, ◌≤◌, ◌==◌, not, true, false, length, slice_index};
-ghost use Rattle.std.specs.Str.{is_utf8};
 ghost use Rattle.sql_lex.specs.Bytes as spec;
 
 use sql_tree::Kind;
@@ -92,11 +91,4 @@ pub(crate) fn begins_bytes(bytes: &[u8]) -> bool
     ensures { result ≡ spec.begins_bytes bytes.now }
 {
     matches!(bytes, [b'X' | b'x', b'\'', ..])
-}
-
-/// Whether the bytes are UTF-8.
-pub(crate) fn is_text(bytes: &[u8]) -> bool
-    ensures { result ≡ is_utf8 bytes.now }
-{
-    std::str::from_utf8(bytes).is_ok()
 }

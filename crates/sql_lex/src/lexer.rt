@@ -2,12 +2,13 @@
 ghost use Rattle.std.specs.Prelude.{◌≡◌, ◌<◌, ◌≤◌, ◌||◌, ◌==◌, not, true, false, length, slice_index, IfOk};
 ghost use Rattle.sql_lex.specs.Tokens as spec;
 
-use crate::bytes::{Class, Piece, begins_bytes, begins_comment, is_in, is_text, run};
+use crate::bytes::{Class, Piece, begins_bytes, begins_comment, is_in, run};
 use crate::numbers::number;
 use crate::quotes::{bytes, quoted};
 use crate::signs::sign;
 use crate::tables::{table, table_len};
 use crate::words::word;
+use dm_types::is_text;
 use sql_tree::{Kind, Span, Token};
 use sqlite_items::Items;
 use std::alloc::{AllocError, Global};

@@ -3,8 +3,9 @@ ghost use Rattle.std.specs.Prelude.{◌≡◌, ◌+◌, ◌<◌, ◌≤◌, fals
 ghost use Rattle.std.specs.Str.{is_utf8};
 ghost use Rattle.sql_lex.specs.Quotes as spec;
 
-use crate::bytes::{Class, Piece, are_in, begins_with, is_text, run};
+use crate::bytes::{Class, Piece, are_in, begins_with, run};
 use crate::tables::is_table_name;
+use dm_types::is_text;
 use sql_tree::Kind;
 
 /// How many bytes stand up to the quote that ends a quoted text, with it.

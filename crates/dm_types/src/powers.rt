@@ -1,0 +1,10 @@
+// Powers of ten.
+ghost use Rattle.std.specs.Prelude.{◌≡◌, ◌≤◌, ◌^◌};
+
+/// Ten to a power.
+pub fn ten_to(power: u8) -> u128
+    requires { power ≤ 38 }
+    ensures { result ≡ 10 ^ power }
+{
+    10u128.pow(u32::from(power))
+}
