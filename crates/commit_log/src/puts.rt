@@ -28,8 +28,8 @@ pub(crate) enum FileFault {
 /// file last (PROTOCOL.md, "Delta Log Entries").
 ///
 /// The paths differ, and none is that of the commit file. All that is put is built before the first
-/// put. After `NameTaken`, `VersionTaken` and `Memory` the version isn't there; after `Failed` it is
-/// absent or whole.
+/// put. After `NameTaken` and `Memory` the version isn't there; after `VersionTaken` another writer's
+/// commit file stands at its path; after `Failed` the version is absent or whole.
 pub fn commit<S: Store>(alloc: Global, store: &mut S, fresh: &NewFiles) -> Result<u64, CommitFault>
     requires { AreApart fresh.now }
     ensures files { Commits fresh.now (S.files store.old) (S.files store.new) result }
