@@ -1,5 +1,5 @@
 // A column of any type.
-ghost use Rattle.std.specs.Prelude.{◌≡◌, ◌<◌, ◌++◌, ◌↔◌, length, All, slice_get, Some, IfOk, IsTrue};
+ghost use Rattle.std.specs.Prelude.{◌≡◌, ◌<◌, ◌++◌, ◌∷◌, [], ◌↔◌, length, All, slice_get, Some, IfOk, OnOk, OnErr, IsTrue};
 ghost use Rattle.column_vectors.specs.Cells.{gathered};
 ghost use Rattle.dm_types.specs.Lanes.{IsNullOrOf};
 ghost use Rattle.dm_types.specs.declared.value.Value.TheVariants.{Null};
@@ -94,6 +94,37 @@ impl AnyColumn {
         ensures { IfOk result (λ value. slice_get self.now.values row ≡ Some value) }
     {
         with_lane!(&self.column, column => column.value(row))
+    }
+
+    /// A column of a type, without rows. It takes no memory.
+    pub fn new(alloc: Global, kind: DataType) -> AnyColumn
+        ensures { result ≡ record { kind = kind; values = [] } }
+    {
+        let column = match kind {
+            DataType::Void | DataType::Boolean => LaneColumn::Bool(Column::new(alloc, kind)),
+            DataType::Byte => LaneColumn::Byte(Column::new(alloc, kind)),
+            DataType::Short => LaneColumn::Short(Column::new(alloc, kind)),
+            DataType::Integer | DataType::Date => LaneColumn::Int(Column::new(alloc, kind)),
+            DataType::Long | DataType::Timestamp => LaneColumn::Long(Column::new(alloc, kind)),
+            DataType::Decimal { .. } => LaneColumn::Decimal(Column::new(alloc, kind)),
+            DataType::Str => LaneColumn::Text(Column::new(alloc, kind)),
+            DataType::Binary => LaneColumn::Bytes(Column::new(alloc, kind)),
+        };
+        AnyColumn { column }
+    }
+
+    /// Adds a row with a value of the column's type, or null, at the end. A text and bytes are moved.
+    pub fn push(&mut self, value: Value) -> Result<(), AllocError>
+        requires { IsNullOrOf self.old.kind value }
+        ensures kind { self.new.kind ≡ self.old.kind }
+        ensures ok { OnOk result (self.new.values ≡ self.old.values ++ value ∷ []) }
+        ensures err { OnErr result (self.new.values ≡ self.old.values) }
+    {
+        match (&mut self.column, value) {
+            (LaneColumn::Text(column), Value::Text(text)) => column.push(text),
+            (LaneColumn::Bytes(column), Value::Bytes(bytes)) => column.push(bytes),
+            (column, value) => with_lane!(column, column => column.push_value(&value)),
+        }
     }
 
     /// The column of these values, which are null or of the type.
