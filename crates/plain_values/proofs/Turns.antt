@@ -1,10 +1,11 @@
 -- Values that are read and written one after the other.
-use Rattle.std.proofs.Common.{◌≡◌, ℕ, zero, suc, ◌+◌, ◌-◌, ◌<◌, ◌≤◌, List, [], ◌∷◌, ◌++◌, length, take, Some, None, Ok, Err, refl, sym, ap, ◌∙◌, append_assoc, length-append, arith}
+use Rattle.std.proofs.Common.{◌≡◌, ℕ, zero, suc, ◌+◌, ◌-◌, ◌<◌, ◌≤◌, List, [], ◌∷◌, ◌++◌, length, take, Some, None, Ok, Err, Result, refl, sym, ap, ◌∙◌, append_assoc, length-append, arith}
 use Rattle.std.specs.Prelude.{option_map}
 use Rattle.std.proofs.lemmas.List.{append-nil, take-take, take_at, take_all}
 use Rattle.dm_types.specs.Then.{◌>>=◌}
-use Rattle.plain_values.specs.Answers.{ReadsPlain, Takes, BeginsWith}
-use Rattle.plain_values.specs.Meaning.{extra, Front, with_value, values_at, whole_at, whole}
+use Rattle.std.specs.Borrow.{Bor}
+use Rattle.plain_values.specs.Answers.{ReadsPlain, ReadsLent, Takes, BeginsWith, lent_values}
+use Rattle.plain_values.specs.Meaning.{Wrong, extra, Front, with_value, values_at, whole_at, whole}
 use Rattle.plain_values.specs.declared.fault.PlainFault.{PlainFault}
 use Rattle.plain_values.specs.declared.fault.PlainFault.TheVariants as fault
 
@@ -72,3 +73,14 @@ begins_still old now new more is begins =
 
 pub begins_same : (old new : List ℕ) → new ≡ old → BeginsWith old new
 begins_same old new is = ap (take (length old)) is ∙ take_all (length old) old (omega arith)
+
+-- ---- values that are lent
+
+pub lent_fault : (known : Result (List (List ℕ)) Wrong) (f : PlainFault) → ReadsPlain known (Err f) → ReadsLent known (Err f)
+lent_fault known fault.Short is = is
+lent_fault known fault.Extra is = is
+lent_fault known fault.Memory is = tt
+
+pub lent_more : (lent : List (Bor (List ℕ))) (value : Bor (List ℕ)) → lent_values (lent ++ value ∷ []) ≡ lent_values lent ++ value.now ∷ []
+lent_more [] value = refl
+lent_more (first ∷ lent) value = ap (λ values. first.now ∷ values) (lent_more lent value)

@@ -1,5 +1,6 @@
 -- What a reader of values returned, beside what its bytes say, and what a writer added.
-use Rattle.std.specs.Prelude.{◌≡◌, ⊤, ℕ, List, length, take, Option, Some, None, Result, Ok, Err}
+use Rattle.std.specs.Prelude.{◌≡◌, ⊤, ℕ, List, length, take, map, Option, Some, None, Result, Ok, Err}
+use Rattle.std.specs.Borrow.{Bor}
 use Rattle.plain_values.specs.Meaning.{Wrong, short, extra}
 use Rattle.plain_values.specs.declared.fault.PlainFault.{PlainFault}
 use Rattle.plain_values.specs.declared.fault.PlainFault.TheVariants as fault
@@ -10,6 +11,17 @@ ReadsPlain known (Ok values) = known ≡ Ok values
 ReadsPlain known (Err fault.Short) = known ≡ Err short
 ReadsPlain known (Err fault.Extra) = known ≡ Err extra
 ReadsPlain known (Err fault.Memory) = ⊤
+
+-- values that are lent
+abbrev pub lent_values : List (Bor (List ℕ)) → List (List ℕ)
+lent_values lent = map (λ value. value.now) lent
+
+-- the same of values that are lent
+abbrev pub ReadsLent : Result (List (List ℕ)) Wrong → Result (List (Bor (List ℕ))) PlainFault → Type 0
+ReadsLent known (Ok lent) = known ≡ Ok (lent_values lent)
+ReadsLent known (Err fault.Short) = known ≡ Err short
+ReadsLent known (Err fault.Extra) = known ≡ Err extra
+ReadsLent known (Err fault.Memory) = ⊤
 
 -- the value at the front, seen by `view`, or Short where there is none
 abbrev pub Takes : {X A : Type 0} → (X → A) → Option A → Result X PlainFault → Type 0

@@ -4,12 +4,14 @@
 mod fault;
 mod in_turn;
 mod laws;
+mod lent;
 mod physical;
 mod plain;
 mod truth;
 
 pub use fault::PlainFault;
 pub use laws::{plain_again, plain_tells};
+pub use lent::read_arrays;
 pub use physical::{
     PlainByteArray, PlainDouble, PlainFixed, PlainFloat, PlainInt32, PlainInt64, PlainInt96,
 };

@@ -7,6 +7,7 @@ ghost use Rattle.plain_values.specs.Answers.{Takes};
 
 use crate::fault::PlainFault;
 use crate::in_turn::InTurn;
+use crate::lent::{split, split_array};
 use byteorder::{ByteOrder, LittleEndian};
 use dm_types::{Bytes, Items};
 use std::alloc::{AllocError, Global};
@@ -31,16 +32,6 @@ pub struct PlainByteArray;
 
 /// FIXED_LEN_BYTE_ARRAY: as many bytes as the length that is given.
 pub struct PlainFixed;
-
-/// So many bytes at the front, and those behind them.
-fn split(bytes: &[u8], size: usize) -> Result<(&[u8], &[u8]), PlainFault>
-    ensures { Takes (λ found. (found.0.now, found.1.now)) (bytes_at size bytes.now) result }
-{
-    match bytes.split_at_checked(size) {
-        Some(parts) => Ok(parts),
-        None => Err(PlainFault::Short),
-    }
-}
 
 impl InTurn for PlainInt32 {
     type Value = i32;
@@ -217,9 +208,7 @@ impl InTurn for PlainByteArray {
         bytes: &'a [u8],
         _length: usize,
     ) -> Result<(Bytes, &'a [u8]), PlainFault> {
-        let (head, behind) = split(bytes, 4)?;
-        let size = LittleEndian::read_u32(head) as usize;
-        let (front, rest) = split(behind, size)?;
+        let (front, rest) = split_array(bytes)?;
         Ok((Items::from_slice(alloc, front)?, rest))
     }
 
