@@ -1,0 +1,14 @@
+pub mod EntriesBack
+pub mod FullLevels
+pub mod Looked
+pub mod PageByPage
+pub mod ReadBack
+pub mod Rows
+pub mod SignedNumbers
+pub mod Sizes
+pub mod Spelled
+pub mod Standing
+pub mod Taken
+pub mod Typed
+pub mod ValuesBack
+pub mod Whole

@@ -1,0 +1,14 @@
+pub mod Physical
+pub mod Types
+pub mod Entries
+pub mod Kept
+pub mod Pages
+pub mod Chunk
+pub mod Answers
+pub mod Views
+pub mod Taking
+pub mod Places
+pub mod Numbers
+pub mod Stored
+pub mod Writing
+pub mod Storing

@@ -1,0 +1,163 @@
+// Values as they stand in pages, by their physical type.
+ghost use Rattle.std.specs.Prelude.{◌≡◌, ◌≢◌, length, slice_get, option_map};
+ghost use Rattle.parquet_pages.specs.Answers.{GivesBody};
+ghost use Rattle.parquet_pages.specs.Pages.{plain_values};
+ghost use Rattle.parquet_pages.specs.Views.{page_values, physicals, seen};
+
+use crate::fault::FileFault;
+use dm_types::{Bytes, Flags, Items, WholeList};
+use parquet_meta::LeafSchema;
+use plain_values::{
+    PlainBoolean, PlainFixed, PlainInt32, PlainInt64, PlainInt96, read_arrays, read_plain,
+};
+use std::alloc::Global;
+
+/// A value before its column's type says what it means.
+#[derive(Clone, Copy)]
+pub(crate) enum PlainValue<'a> {
+    /// BOOLEAN.
+    Flag(bool),
+    /// INT32 and INT64.
+    Whole(i64),
+    /// The bytes of the others.
+    Raw(&'a [u8]),
+}
+
+/// Values of one physical type.
+#[derive(Drop)]
+pub(crate) enum PlainList {
+    Flags(Flags),
+    Whole32(Items<i32>),
+    Whole64(WholeList),
+    Int96(Items<[u8; 12]>),
+    Raw(Items<Bytes>),
+}
+
+impl PlainList {
+    /// How many values there are.
+    pub(crate) fn len(&self) -> usize
+        ensures { result ≡ length (physicals self.now) }
+    {
+        match self {
+            PlainList::Flags(flags) => flags.len(),
+            PlainList::Whole32(numbers) => numbers.len(),
+            PlainList::Whole64(numbers) => numbers.len(),
+            PlainList::Int96(values) => values.len(),
+            PlainList::Raw(values) => values.len(),
+        }
+    }
+
+    /// The value at a place, counted from 0.
+    pub(crate) fn get(&self, at: usize) -> Option<PlainValue<'_>>
+        ensures { option_map seen result ≡ slice_get (physicals self.now) at }
+    {
+        match self {
+            PlainList::Flags(flags) => {
+                let flag = flags.as_slice().get(at)?;
+                Some(PlainValue::Flag(*flag))
+            }
+            PlainList::Whole32(numbers) => {
+                let number = numbers.as_slice().get(at)?;
+                Some(PlainValue::Whole(i64::from(*number)))
+            }
+            PlainList::Whole64(numbers) => {
+                let number = numbers.as_slice().get(at)?;
+                Some(PlainValue::Whole(*number))
+            }
+            PlainList::Int96(values) => {
+                let value = values.as_slice().get(at)?;
+                Some(PlainValue::Raw(value))
+            }
+            PlainList::Raw(values) => {
+                let value = values.as_slice().get(at)?;
+                Some(PlainValue::Raw(value.as_slice()))
+            }
+        }
+    }
+}
+
+/// The values of a page.
+#[derive(Drop)]
+pub(crate) enum PageValues<'a> {
+    /// Values of their own.
+    Own(PlainList),
+    /// Byte arrays, which are parts of the page.
+    Lent(Items<&'a [u8]>),
+}
+
+impl PageValues<'_> {
+    /// How many values there are.
+    pub(crate) fn len(&self) -> usize
+        ensures { result ≡ length (page_values self.now) }
+    {
+        match self {
+            PageValues::Own(values) => values.len(),
+            PageValues::Lent(arrays) => arrays.len(),
+        }
+    }
+
+    /// The value at a place, counted from 0.
+    pub(crate) fn get(&self, at: usize) -> Option<PlainValue<'_>>
+        ensures { option_map seen result ≡ slice_get (page_values self.now) at }
+    {
+        match self {
+            PageValues::Own(values) => values.get(at),
+            PageValues::Lent(arrays) => {
+                let array = arrays.as_slice().get(at)?;
+                Some(PlainValue::Raw(array))
+            }
+        }
+    }
+}
+
+// The values of a leaf that has no byte arrays.
+fn read_own(
+    alloc: Global,
+    leaf: &LeafSchema,
+    bytes: &[u8],
+    count: usize,
+) -> Result<PlainList, FileFault>
+    requires { leaf.now.physical ≢ 6 }
+    ensures { GivesBody physicals (plain_values leaf.now count bytes.now) result }
+{
+    match leaf.physical {
+        0 => {
+            let flags = read_plain::<PlainBoolean>(alloc, bytes, 0, count)?;
+            Ok(PlainList::Flags(flags))
+        }
+        1 => {
+            let numbers = read_plain::<PlainInt32>(alloc, bytes, 0, count)?;
+            Ok(PlainList::Whole32(numbers))
+        }
+        2 => {
+            let numbers = read_plain::<PlainInt64>(alloc, bytes, 0, count)?;
+            Ok(PlainList::Whole64(numbers))
+        }
+        3 => {
+            let values = read_plain::<PlainInt96>(alloc, bytes, 0, count)?;
+            Ok(PlainList::Int96(values))
+        }
+        _ => {
+            let size = leaf.length.unsigned_abs() as usize;
+            let values = read_plain::<PlainFixed>(alloc, bytes, size, count)?;
+            Ok(PlainList::Raw(values))
+        }
+    }
+}
+
+/// The `count` values of a leaf that the bytes are, in the encoding PLAIN (Encodings.md, "Plain").
+pub(crate) fn read_values<'a>(
+    alloc: Global,
+    leaf: &LeafSchema,
+    bytes: &'a [u8],
+    count: usize,
+) -> Result<PageValues<'a>, FileFault>
+    ensures { GivesBody page_values (plain_values leaf.now count bytes.now) result }
+{
+    if leaf.physical == 6 {
+        let arrays = read_arrays(alloc, bytes, count)?;
+        return Ok(PageValues::Lent(arrays));
+    }
+    let values = read_own(alloc, leaf, bytes, count)?;
+    Ok(PageValues::Own(values))
+}

@@ -1,0 +1,118 @@
+// Columns that are read of chunks.
+ghost use Rattle.std.specs.Prelude.{◌≡◌, ℕ, Bool, List, [], ◌++◌, Ok, Some};
+ghost use Rattle.dm_types.specs.Ranges.{IsWellFormed};
+ghost use Rattle.dm_types.specs.Then.{go};
+ghost use Rattle.parquet_pages.specs.Answers.{Gives};
+ghost use Rattle.dm_types.specs.declared.value.DataType.{DataType as AType};
+ghost use Rattle.dm_types.specs.declared.value.Value.{Value as AValue};
+ghost use Rattle.parquet_pages.specs.Chunk.{chunk_values, chunk_column, within};
+ghost use Rattle.parquet_pages.specs.Kept.{begun, finished, with_more};
+ghost use Rattle.parquet_pages.specs.Views.{wanted};
+ghost use Rattle.parquet_pages.specs.declared.kept.Reading.{Reading as AReading};
+
+use crate::chunk::take_chunk;
+use crate::fault::FileFault;
+use crate::kept::{KeptColumn, Reading};
+use crate::types::fits;
+use column_vectors::AnyColumn;
+use dm_types::DataType;
+use parquet_meta::{ChunkMeta, LeafSchema};
+use std::alloc::Global;
+use std::marker::Model;
+
+/// A column that is read of chunks, one after the other.
+#[derive(Drop)]
+pub struct ColumnReader {
+    reading: Reading,
+}
+
+impl Model for ColumnReader {
+    ghost use Rattle.parquet_pages.specs.Kept.{IsReading};
+    ghost use Rattle.parquet_pages.specs.declared.kept.Reading.{Reading};
+
+    ghost Value = { Reading };
+
+    ghost view = { λ reader. reader.reading };
+
+    ghost invariant = { λ reader. IsReading reader.reading };
+}
+
+impl ColumnReader {
+    /// A column of a type, without rows. Its texts or bytes may have `text_left` bytes together. It
+    /// takes no memory.
+    pub fn new(alloc: Global, kind: DataType, nullable: bool, text_left: u64) -> ColumnReader
+        requires { IsWellFormed kind }
+        ensures { result ≡ begun kind nullable text_left }
+    {
+        let column = AnyColumn::new(alloc, kind);
+        ColumnReader {
+            reading: Reading {
+                kind,
+                nullable,
+                kept: Some(KeptColumn { column, text_left }),
+            },
+        }
+    }
+
+    /// Adds the values of a chunk of a leaf that fits the type. `file` is the file's bytes before its
+    /// footer.
+    ///
+    /// The faults are those of `read_chunk` but Mismatch and TextLimit, in its order: a column whose text
+    /// has passed the limit is refused by `finish`.
+    pub fn add_chunk(
+        self,
+        alloc: Global,
+        file: &[u8],
+        chunk: &ChunkMeta,
+        leaf: &LeafSchema,
+        rows: usize,
+    ) -> Result<ColumnReader, FileFault>
+        ensures { Gives (λ reader. reader) (go (chunk_values file.now chunk.now (wanted self leaf.now) rows) (λ values. Ok (with_more values self))) result }
+    {
+        let ColumnReader { mut reading } = self;
+        take_chunk(alloc, &mut reading, file, chunk, leaf, rows)?;
+        Ok(ColumnReader { reading })
+    }
+
+    /// The column, or TextLimit where its text has passed the limit. It takes no memory.
+    pub fn finish(self) -> Result<AnyColumn, FileFault>
+        ensures { result ≡ finished self.kept }
+    {
+        match self.reading.kept {
+            Some(kept) => Ok(kept.column),
+            None => Err(FileFault::TextLimit),
+        }
+    }
+}
+
+/// A law: values that are added after others are added as one list with them, and a column that is
+/// begun and takes values is there as long as their text is within the limit.
+pub fn columns_grow()
+    ensures more { (first then : List AValue) (reading : AReading)
+        → with_more (first ++ then) reading ≡ with_more then (with_more first reading) }
+    ensures none { (reading : AReading) → with_more [] reading ≡ reading }
+    ensures whole { (kind : AType) (nullable : Bool) (text_left : ℕ) (values : List AValue)
+        → finished (with_more values (begun kind nullable text_left)).kept ≡ go (within text_left values) (λ all. Ok (record { kind = kind; values = all })) }
+{}
+
+/// The column of a chunk.
+pub fn read_chunk(
+    alloc: Global,
+    file: &[u8],
+    chunk: &ChunkMeta,
+    leaf: &LeafSchema,
+    kind: &DataType,
+    nullable: bool,
+    rows: usize,
+    text_left: u64,
+) -> Result<AnyColumn, FileFault>
+    requires { IsWellFormed kind.now }
+    ensures { Gives (λ column. column) (go (chunk_column file.now chunk.now (record { kind = kind.now; nullable = nullable; leaf = leaf.now }) rows text_left) (λ values. Ok (record { kind = kind.now; values = values }))) result }
+{
+    if !fits(kind, leaf) {
+        return Err(FileFault::Mismatch);
+    }
+    let reader = ColumnReader::new(alloc, *kind, nullable, text_left);
+    let reader = reader.add_chunk(alloc, file, chunk, leaf, rows)?;
+    reader.finish()
+}
