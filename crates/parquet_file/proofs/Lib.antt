@@ -1,0 +1,6 @@
+pub mod GroupsRead
+pub mod ChunksWritten
+pub mod LeavesWritten
+pub mod FilesBack
+pub mod FilesWritten
+pub mod Samples

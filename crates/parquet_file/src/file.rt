@@ -1,0 +1,118 @@
+// A file that is read.
+ghost use Rattle.std.specs.Prelude.{◌≡◌, ◌<◌, length, slice_get, Some, Ok, unsigned_abs};
+ghost use Rattle.dm_types.specs.Ranges.{IsWellFormed};
+ghost use Rattle.dm_types.specs.Then.{go};
+ghost use Rattle.parquet_pages.specs.Answers.{Gives};
+ghost use Rattle.parquet_file.specs.File.{column_of, groups_values};
+ghost use Rattle.parquet_pages.specs.Kept.{with_more};
+ghost use Rattle.parquet_pages.specs.Views.{wanted};
+ghost use Rattle.std.specs.Option.{option_copied};
+
+use column_vectors::AnyColumn;
+use dm_types::DataType;
+use parquet_meta::{ChunkMeta, Footer, LeafSchema, RowGroup};
+use parquet_pages::{ColumnReader, FileFault, columns_grow, fits};
+use std::alloc::Global;
+use std::marker::Model;
+
+/// A Parquet file whose bytes are lent.
+#[derive(Drop)]
+pub struct ParquetFile<'a> {
+    pub(crate) pages: &'a [u8],
+    pub(crate) footer: Footer,
+}
+
+impl<'a> Model for ParquetFile<'a> {
+    ghost use Rattle.parquet_file.specs.File.{Opened};
+
+    ghost Value = { Opened };
+
+    ghost view = { λ file. record { pages = file.pages.now; footer = file.footer } };
+}
+
+impl<'a> ParquetFile<'a> {
+    /// How many rows the file has. It takes no memory.
+    pub fn rows(&self) -> u64
+        ensures { result ≡ unsigned_abs self.now.footer.rows }
+    {
+        self.footer.rows.unsigned_abs()
+    }
+
+    /// How many leaves the schema has. It takes no memory.
+    pub fn leaf_count(&self) -> usize
+        ensures { result ≡ length self.now.footer.leaves }
+    {
+        self.footer.leaves.len()
+    }
+
+    /// A leaf of the schema, counted from 0. It takes no memory.
+    pub fn leaf(&self, i: usize) -> &LeafSchema
+        requires { i < length self.now.footer.leaves }
+        ensures { slice_get self.now.footer.leaves i ≡ Some result.now }
+    {
+        self.footer.leaves.get(i)
+    }
+
+    /// The column of a leaf, over all row groups, or the first fault: Mismatch where the leaf doesn't
+    /// hold values of the type; then chunk by chunk Compressed, BadParquet, Encoding and Range, as
+    /// `parquet_pages::read_chunk` has them; and TextLimit where the texts or bytes of the column have
+    /// more than `text_left` bytes together.
+    pub fn column(
+        &self,
+        alloc: Global,
+        i: usize,
+        kind: &DataType,
+        nullable: bool,
+        text_left: u64,
+    ) -> Result<AnyColumn, FileFault>
+        requires leaf { i < length self.now.footer.leaves }
+        requires kind { IsWellFormed kind.now }
+        ensures { Gives (λ column. column) (go (column_of self.now i kind.now nullable text_left) (λ values. Ok (record { kind = kind.now; values = values }))) result }
+    {
+        columns_grow();
+        let leaf = self.footer.leaves.get(i);
+        if !fits(kind, leaf) {
+            return Err(FileFault::Mismatch);
+        }
+        let reader = ColumnReader::new(alloc, *kind, nullable, text_left);
+        let groups = self.footer.groups.as_slice();
+        let reader = read_groups(alloc, self.pages, groups, leaf, i, reader)?;
+        reader.finish()
+    }
+}
+
+// The chunk of the i-th leaf.
+fn chunk_at(group: &RowGroup, i: usize) -> Option<&ChunkMeta>
+    ensures { option_copied result ≡ slice_get group.now.chunks i }
+{
+    group.chunks.as_slice().get(i)
+}
+
+// How many rows a row group has.
+fn rows_in(group: &RowGroup) -> usize
+    ensures { result ≡ unsigned_abs group.now.rows }
+{
+    group.rows.unsigned_abs() as usize
+}
+
+// Adds the values of the i-th leaf in row groups, one after the other.
+fn read_groups(
+    alloc: Global,
+    pages: &[u8],
+    groups: &[RowGroup],
+    leaf: &LeafSchema,
+    i: usize,
+    reader: ColumnReader,
+) -> Result<ColumnReader, FileFault>
+    ensures { Gives (λ reader. reader) (go (groups_values pages.now (wanted reader leaf.now) i groups.now) (λ values. Ok (with_more values reader))) result }
+{
+    columns_grow();
+    let mut reader = reader;
+    for group in groups {
+        let Some(chunk) = chunk_at(group, i) else {
+            return Err(FileFault::BadParquet);
+        };
+        reader = reader.add_chunk(alloc, pages, chunk, leaf, rows_in(group))?;
+    }
+    Ok(reader)
+}
