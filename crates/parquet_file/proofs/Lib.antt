@@ -4,3 +4,4 @@ pub mod LeavesWritten
 pub mod FilesBack
 pub mod FilesWritten
 pub mod Samples
+pub mod Growing

@@ -1,3 +1,4 @@
 // Tests.
 mod reading;
+mod speed;
 mod writing;

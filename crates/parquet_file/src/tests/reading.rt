@@ -122,34 +122,69 @@ fn is_bad(alloc: Global, bytes: &[u8]) -> bool {
     matches!(open_file(alloc, bytes), Err(FileFault::BadParquet))
 }
 
+/// Whether the values of a column are shown so.
+fn shows(
+    alloc: Global,
+    bytes: &[u8],
+    i: usize,
+    kind: &DataType,
+    wanted: &str,
+) -> Result<bool, FileFault>
+    requires { IsWellFormed kind.now }
+{
+    let column = column_of(alloc, bytes, i, kind, 3)?;
+    let shown = shown(alloc, &column)?;
+    Ok(shown.as_str() == wanted)
+}
+
+/// Whether a column is refused with the fault.
+fn is_refused(
+    alloc: Global,
+    bytes: &[u8],
+    i: usize,
+    kind: &DataType,
+    text_left: u64,
+    fault: FileFault,
+) -> bool
+    requires { IsWellFormed kind.now }
+{
+    match column_of(alloc, bytes, i, kind, text_left) {
+        Ok(_) => false,
+        Err(found) => found == fault,
+    }
+}
+
 #[test]
-fn row_groups_are_read(rt: HostRuntime) -> Result<(), Fail> {
+fn leaves_are_told(rt: HostRuntime) -> Result<(), Fail> {
     let alloc = rt.alloc();
     let bytes = file_of(alloc, PAGES, FOOTER)?;
     let file = open_file(alloc, &bytes)?;
     assert_eq!(rt; file.rows(), 5);
     assert_eq!(rt; file.leaf_count(), 2);
-    assert_eq!(rt; file.leaf(0).name.as_slice(), b"n".as_slice());
     assert_eq!(rt; file.leaf(1).name.as_slice(), b"t".as_slice());
     assert_eq!(rt; file.leaf(1).field_id, Some(2));
-    let numbers = column_of(alloc, &bytes, 0, &DataType::Integer, 0)?;
-    let numbers = shown(alloc, &numbers)?;
-    assert_eq!(rt;
-        numbers.as_str(),
-        "Int(1) Null Int(-2) Int(2147483647) Null "
-    );
-    let texts = column_of(alloc, &bytes, 1, &DataType::Str, 3)?;
-    let texts = shown(alloc, &texts)?;
-    assert_eq!(rt;
-        texts.as_str(),
-        "Text(Text { inner: \"a\" }) Text(Text { inner: \"\" }) Null Null Text(Text { inner: \"bc\" }) "
-    );
-    let long = column_of(alloc, &bytes, 1, &DataType::Str, 2);
-    assert!(rt; long.err() == Some(FileFault::TextLimit));
-    let typed = column_of(alloc, &bytes, 1, &DataType::Long, 3);
-    assert!(rt; typed.err() == Some(FileFault::Mismatch));
-    let ranged = column_of(alloc, &bytes, 0, &DataType::Byte, 0);
-    assert!(rt; ranged.err() == Some(FileFault::Range));
+    Ok(())
+}
+
+#[test]
+fn row_groups_are_read(rt: HostRuntime) -> Result<(), Fail> {
+    let alloc = rt.alloc();
+    let bytes = file_of(alloc, PAGES, FOOTER)?;
+    let numbers = "Int(1) Null Int(-2) Int(2147483647) Null ";
+    assert!(rt; shows(alloc, &bytes, 0, &DataType::Integer, numbers)?);
+    let texts =
+        "Text(Text { inner: \"a\" }) Text(Text { inner: \"\" }) Null Null Text(Text { inner: \"bc\" }) ";
+    assert!(rt; shows(alloc, &bytes, 1, &DataType::Str, texts)?);
+    Ok(())
+}
+
+#[test]
+fn columns_are_refused(rt: HostRuntime) -> Result<(), Fail> {
+    let alloc = rt.alloc();
+    let bytes = file_of(alloc, PAGES, FOOTER)?;
+    assert!(rt; is_refused(alloc, &bytes, 1, &DataType::Str, 2, FileFault::TextLimit));
+    assert!(rt; is_refused(alloc, &bytes, 1, &DataType::Long, 3, FileFault::Mismatch));
+    assert!(rt; is_refused(alloc, &bytes, 0, &DataType::Byte, 0, FileFault::Range));
     Ok(())
 }
 
@@ -199,19 +234,29 @@ fn bad_files_are_refused(rt: HostRuntime) -> Result<(), Fail> {
 fn bad_chunks_are_refused(rt: HostRuntime) -> Result<(), Fail> {
     let alloc = rt.alloc();
     let bytes = file_of(alloc, PAGE, PAGE_FOOTER)?;
-    let column = column_of(alloc, &bytes, 0, &DataType::Integer, 0)?;
-    let column = shown(alloc, &column)?;
-    assert_eq!(rt; column.as_str(), "Int(7) Null ");
+    assert!(rt; shows(alloc, &bytes, 0, &DataType::Integer, "Int(7) Null ")?);
     for footer in BAD_CHUNKS {
         let bytes = file_of(alloc, PAGE, footer)?;
-        let refused = column_of(alloc, &bytes, 0, &DataType::Integer, 0);
-        assert!(rt; refused.err() == Some(FileFault::BadParquet), "{footer:?}");
+        let refused = is_refused(
+            alloc,
+            &bytes,
+            0,
+            &DataType::Integer,
+            0,
+            FileFault::BadParquet,
+        );
+        assert!(rt; refused, "{footer:?}");
     }
+    Ok(())
+}
+
+#[test]
+fn other_codecs_and_encodings_are_refused(rt: HostRuntime) -> Result<(), Fail> {
+    let alloc = rt.alloc();
+    let kind = DataType::Integer;
     let snappy = file_of(alloc, PAGE, SNAPPY_FOOTER)?;
-    let refused = column_of(alloc, &snappy, 0, &DataType::Integer, 0);
-    assert!(rt; refused.err() == Some(FileFault::Compressed));
-    let packed = file_of(alloc, DELTA_PAGE, PAGE_FOOTER)?;
-    let refused = column_of(alloc, &packed, 0, &DataType::Integer, 0);
-    assert!(rt; refused.err() == Some(FileFault::Encoding));
+    assert!(rt; is_refused(alloc, &snappy, 0, &kind, 0, FileFault::Compressed));
+    let delta = file_of(alloc, DELTA_PAGE, PAGE_FOOTER)?;
+    assert!(rt; is_refused(alloc, &delta, 0, &kind, 0, FileFault::Encoding));
     Ok(())
 }
