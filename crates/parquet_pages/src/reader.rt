@@ -20,7 +20,7 @@ use parquet_meta::{ChunkMeta, LeafSchema};
 use std::alloc::Global;
 use std::marker::Model;
 
-/// A column that is read of chunks, one after the other.
+/// A column that is read of chunks, one after the other: begun by `new`, and taken by `finish`.
 #[derive(Drop)]
 pub struct ColumnReader {
     reading: Reading,
@@ -95,7 +95,19 @@ pub fn columns_grow()
         → finished (with_more values (begun kind nullable text_left)).kept ≡ go (within text_left values) (λ all. Ok (record { kind = kind; values = all })) }
 {}
 
-/// The column of a chunk.
+/// The column of a chunk (parquet.thrift, `ColumnMetaData`, `PageHeader`; Encodings.md).
+///
+/// `file` is the file's bytes before its footer, so that a chunk lies between byte 4 and their end. The
+/// column is of the type `kind`, has `rows` values, and is null only where `nullable` is set; its texts
+/// or bytes have at most `text_left` bytes together. The faults come in this order:
+///
+/// - Mismatch where the leaf doesn't hold values of the type, by `fits`;
+/// - Compressed where the chunk is compressed;
+/// - BadParquet where its place isn't within the file, or it hasn't `rows` values;
+/// - then page after page BadParquet for the header, Encoding for a type of page or an encoding that
+///   isn't read, BadParquet for the body, Range for a value out of the type's range or a null that the
+///   column doesn't take;
+/// - TextLimit where the text passes `text_left`. Nothing of what passes it is kept.
 pub fn read_chunk(
     alloc: Global,
     file: &[u8],
