@@ -1,4 +1,4 @@
--- Laws of the eight lanes, with their proofs.
+-- Proofs of the laws of the eight lanes: an `impl` takes them from here alone. No clause cites this file.
 use Rattle.std.specs.Prelude.{◌≡◌, ℕ, ◌^◌, ℤ, pos, negsuc, ◌*ℤ◌, FitsSigned, List, Bool, true, false, cond, Option, Some, None, refl}
 use Rattle.std.proofs.Common.{sym, ap, arith}
 use Rattle.std.specs.Int.{w32}

@@ -1,5 +1,5 @@
 -- Which types are well formed, and the ranges of values.
-use Rattle.std.specs.Prelude.{◌^◌, ◌<◌, ◌≤◌, ℤ, pos, neg_ℤ, ◌≤ℤ◌, int_le, ◌&&◌, Bool, unsigned_abs, ⊤}
+use Rattle.std.specs.Prelude.{◌^◌, ◌<◌, ◌≤◌, ℤ, pos, ◌≤ℤ◌, int_le, ◌&&◌, Bool, unsigned_abs, ⊤}
 use Rattle.std.specs.Int.{int_div_euclid}
 use Rattle.std.specs.Str.{IsUtf8}
 use Rattle.dm_types.specs.declared.value.DataType.{DataType}
@@ -7,22 +7,23 @@ use Rattle.dm_types.specs.declared.value.DataType.TheVariants as kind
 use Rattle.dm_types.specs.declared.value.Value.{Value}
 use Rattle.dm_types.specs.declared.value.Value.TheVariants as value
 use Rattle.dm_types.specs.Lanes.{IsOf}
+use Rattle.dm_types.specs.declared.value.TheConstants.{MAX_PRECISION, FIRST_DAY, LAST_DAY, DAY_MICROS}
 
--- a decimal type has a precision from 1 to 38 and a scale from 0 to its precision
+-- a decimal type has a precision from 1 to the greatest and a scale from 0 to its precision
 abbrev pub IsWellFormed : DataType → Type 0
-IsWellFormed (kind.Decimal precision scale) = (1 ≤ precision) × (precision ≤ 38) × (scale ≤ precision)
+IsWellFormed (kind.Decimal precision scale) = (1 ≤ precision) × (precision ≤ MAX_PRECISION) × (scale ≤ precision)
 IsWellFormed k = ⊤
 
 -- a day from 0001-01-01 to 9999-12-31
 abbrev pub IsDay : ℤ → Type 0
-IsDay n = (neg_ℤ (pos 719_162) ≤ℤ n) × (n ≤ℤ pos 2_932_896)
+IsDay n = (FIRST_DAY ≤ℤ n) × (n ≤ℤ LAST_DAY)
 
 abbrev pub is_day : ℤ → Bool
-is_day n = int_le (neg_ℤ (pos 719_162)) n && int_le n (pos 2_932_896)
+is_day n = int_le FIRST_DAY n && int_le n LAST_DAY
 
 -- the day of a moment
 abbrev pub day_part : ℤ → ℤ
-day_part n = int_div_euclid n (pos 86_400_000_000)
+day_part n = int_div_euclid n DAY_MICROS
 
 -- what the type says of its values beside their kind
 abbrev pub IsWithin : DataType → Value → Type 0

@@ -23,9 +23,9 @@ pub use lanes::{
 };
 pub use order::sort_texts;
 pub use powers::ten_to;
-pub use refusal::{Counted, Refused, StatementRefusal, Stop, TableRefusal};
+pub use refusal::{Counted, PutRefusal, Refused, StatementRefusal, Stop, TableRefusal};
 pub use text::{Text, is_text};
-pub use value::{DataType, Decimal, Value};
+pub use value::{DAY_MICROS, DataType, Decimal, FIRST_DAY, LAST_DAY, MAX_PRECISION, Value};
 
 /// Bytes, of a file or of a text.
 pub type Bytes = Items<u8>;
@@ -65,6 +65,3 @@ pub type Rows = Items<Row>;
 
 /// Drawn names of sixteen bytes.
 pub type NameList = Items<[u8; 16]>;
-
-#[cfg(test)]
-mod tests;

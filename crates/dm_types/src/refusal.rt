@@ -64,13 +64,18 @@ pub enum TableRefusal {
     },
 }
 
-/// Why a table that is opened keeps a statement off.
+/// Why a table that is opened keeps a statement off: what its checks find before anything is put.
 #[derive(Debug, PartialEq, Eq, Drop)]
 pub enum StatementRefusal {
     /// `S4`: the table takes new rows only.
     AppendOnly,
     /// `S5`: the table doesn't track its rows.
     RowTrackingOff,
+}
+
+/// Why the files of a new version aren't put: what stands at their paths, which no check looks at.
+#[derive(Debug, PartialEq, Eq, Drop)]
+pub enum PutRefusal {
     /// `S16`: the path of a new file is taken.
     NameTaken {
         /// The whole path in the store.
@@ -90,6 +95,8 @@ pub enum Refused {
     Table(TableRefusal),
     /// The table is opened, and keeps the statement off.
     Statement(StatementRefusal),
+    /// The statement passes its checks, and its new files find a path taken.
+    Put(PutRefusal),
 }
 
 /// Why a statement has no answer.
@@ -134,5 +141,16 @@ impl From<StatementRefusal> for Stop {
 
     fn from(refusal: StatementRefusal) -> Stop {
         Stop::Refused(Refused::Statement(refusal))
+    }
+}
+
+impl From<PutRefusal> for Stop {
+    ghost use Rattle.dm_types.specs.declared.refusal.Refused.TheVariants.{Put};
+    ghost use Rattle.dm_types.specs.declared.refusal.Stop.TheVariants as stop;
+
+    ghost from_gives = { λ refusal e. e ≡ stop.Refused (Put refusal) };
+
+    fn from(refusal: PutRefusal) -> Stop {
+        Stop::Refused(Refused::Put(refusal))
     }
 }

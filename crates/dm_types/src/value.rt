@@ -3,6 +3,18 @@ use crate::exact::Exact;
 use crate::{Bytes, Text};
 use std::alloc::AllocError;
 
+/// The greatest precision of a decimal, in digits.
+pub const MAX_PRECISION: u8 = 38;
+
+/// The first day of dates and moments, 0001-01-01, counted from 1970-01-01.
+pub const FIRST_DAY: i32 = -719_162;
+
+/// The last day of dates and moments, 9999-12-31, counted from 1970-01-01.
+pub const LAST_DAY: i32 = 2_932_896;
+
+/// The microseconds of a day.
+pub const DAY_MICROS: i64 = 86_400_000_000;
+
 /// The type of a column (Delta's "Primitive Types"), or of an expression that is always null.
 #[derive(Clone, Copy, PartialEq, Eq, Debug)]
 pub enum DataType {
@@ -20,7 +32,7 @@ pub enum DataType {
     Long,
     /// `decimal(p,s)`: a number of at most `precision` digits, `scale` of them behind the point.
     Decimal {
-        /// The greatest number of digits, from 1 to 38.
+        /// The greatest number of digits, from 1 to [`MAX_PRECISION`].
         precision: u8,
         /// The digits behind the point, from 0 to the precision.
         scale: u8,

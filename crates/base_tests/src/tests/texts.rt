@@ -1,8 +1,6 @@
 // Texts, their order, and causes of a stop.
-mod values;
-
-use crate::{
-    Bytes, Exact, Items, Refused, StatementRefusal, Stop, TableRefusal, Text, TextList, sort_texts,
+use dm_types::{
+    Bytes, Exact, Items, PutRefusal, Refused, StatementRefusal, Stop, TableRefusal, Text, TextList, sort_texts,
 };
 use std::alloc::{AllocError, Global};
 use std::collections::HashSet;
@@ -59,4 +57,6 @@ fn stops_know_their_cause(rt: HostRuntime) {
     assert!(rt; no_table == Stop::Refused(Refused::Table(TableRefusal::NoTable)));
     let off = Stop::from(StatementRefusal::RowTrackingOff);
     assert!(rt; off == Stop::Refused(Refused::Statement(StatementRefusal::RowTrackingOff)));
+    let taken = Stop::from(PutRefusal::VersionTaken { version: 1 });
+    assert!(rt; taken == Stop::Refused(Refused::Put(PutRefusal::VersionTaken { version: 1 })));
 }

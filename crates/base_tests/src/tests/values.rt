@@ -1,7 +1,7 @@
 // Comparisons by hand, and each lane through its bound.
 ghost use Rattle.std.specs.Prelude.{IsTrue};
 
-use crate::{
+use dm_types::{
     Bytes, DataType, Decimal, Lane, LaneBool, LaneByte, LaneBytes, LaneDecimal, LaneInt, LaneLong,
     LaneShort, LaneText, Text, Value, compare, same,
 };

@@ -1,0 +1,3 @@
+// Tests of dm_types, dm_text and dm_store.
+mod texts;
+mod values;
