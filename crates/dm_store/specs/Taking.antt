@@ -2,8 +2,8 @@
 use Rattle.std.specs.Prelude.{◌≡◌, ℕ, ◌<◌, ◌≤◌, List, [], length, Option, Some, None, Result, Ok, Err, ⊤}
 use Rattle.std.specs.Io.KnownBytes.{IsAtEnd}
 use Rattle.dm_store.specs.Causes.{Rose}
-use Rattle.dm_store.specs.declared.read_all.TakeFault.{TakeFault}
-use Rattle.dm_store.specs.declared.read_all.TakeFault.TheVariants as fault
+use Rattle.dm_store.specs.declared.taking.TakeFault.{TakeFault}
+use Rattle.dm_store.specs.declared.taking.TakeFault.TheVariants as fault
 
 -- only a failed call of the source raises its count
 abbrev pub TakeCause : TakeFault → ℕ → ℕ → Type 0

@@ -14,11 +14,11 @@ mod memory_source;
 mod memory_store;
 mod paths;
 mod plan;
-mod read_all;
 mod sure_names;
 mod sure_sink;
 mod sure_source;
 mod sure_store;
+mod taking;
 mod texts;
 mod traits;
 
@@ -31,14 +31,9 @@ pub use memory_names::MemoryNames;
 pub use memory_sink::MemorySink;
 pub use memory_source::MemorySource;
 pub use memory_store::MemoryStore;
-pub use read_all::{TakeFault, take_all};
 pub use sure_names::SureNames;
 pub use sure_sink::SureSink;
 pub use sure_source::SureSource;
 pub use sure_store::SureStore;
+pub use taking::{TakeFault, take_all};
 pub use traits::{Clock, NameSource, Sink, Source, Store};
-
-#[cfg(test)]
-mod path_tests;
-#[cfg(test)]
-mod tests;

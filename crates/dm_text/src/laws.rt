@@ -6,8 +6,7 @@ ghost use Rattle.dm_text.specs.Reading.{text_value};
 ghost use Rattle.dm_types.specs.declared.value.DataType.TheVariants.{Binary};
 
 use crate::calendar::date_of;
-use crate::moments::DAY;
-use dm_types::{DataType, Value};
+use dm_types::{DAY_MICROS, DataType, Value};
 
 /// A law: what is printed of a value is read as it, for the types that are read: all but binary.
 pub fn printed_is_read(value: &Value, kind: &DataType)
@@ -33,7 +32,7 @@ fn day_of(value: &Value, kind: &DataType) -> i64
 {
     match value {
         Value::Day(day) => i64::from(*day),
-        Value::Micros(moment) => moment.div_euclid(DAY),
+        Value::Micros(moment) => moment.div_euclid(DAY_MICROS),
         _ => 0,
     }
 }

@@ -16,6 +16,3 @@ pub use fields::print_field;
 pub use laws::printed_is_read;
 pub use printing::print_value;
 pub use reading::read_value;
-
-#[cfg(test)]
-mod tests;

@@ -8,11 +8,8 @@ ghost use Rattle.dm_types.specs.Ranges.{IsDay, day_part};
 use crate::calendar::{push_date, read_date};
 use crate::decimals::read_fraction;
 use crate::digits::{push_places, read_between};
-use dm_types::Bytes;
+use dm_types::{Bytes, DAY_MICROS};
 use std::alloc::AllocError;
-
-/// The microseconds of a day.
-pub(crate) const DAY: i64 = 86_400_000_000;
 
 /// The moment of a date and a time of the day, in microseconds from 1970-01-01 00:00.
 #[tactic(auto, using(std::proofs::lemmas::Bool::Decides::nat_tests), unfolding(crate::specs::Moments::timestamp))]
@@ -46,7 +43,7 @@ fn moment_of(days: i32, micros: u128) -> i64
     requires clock { micros < 86_400_000_000 }
     ensures { result ≡ days *ℤ pos 86_400_000_000 +ℤ pos micros }
 {
-    i64::from(days) * DAY + micros as i64
+    i64::from(days) * DAY_MICROS + micros as i64
 }
 
 // The two digits at a place, where their number is below a limit.
@@ -106,7 +103,7 @@ pub(crate) fn push_moment(out: &mut Bytes, moment: i64) -> Result<(), AllocError
     requires { IsDay (day_part moment) }
     ensures { OnOk result (out.new ≡ out.old ++ date_text (day_part moment) ++ (32 ∷ clock_text (clock_part moment))) }
 {
-    push_date(out, moment.div_euclid(DAY))?;
+    push_date(out, moment.div_euclid(DAY_MICROS))?;
     out.push(b' ')?;
-    push_clock(out, moment.rem_euclid(DAY) as u64)
+    push_clock(out, moment.rem_euclid(DAY_MICROS) as u64)
 }

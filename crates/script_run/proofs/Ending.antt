@@ -9,7 +9,7 @@ use Rattle.dm_store.specs.Streams.{Writes}
 use Rattle.dm_store.specs.Taking.{TakesAll}
 use Rattle.dm_store.specs.declared.faults.SinkFault.{SinkFault}
 use Rattle.dm_store.specs.declared.faults.SinkFault.TheVariants as sink
-use Rattle.dm_store.specs.declared.read_all.TakeFault.TheVariants as fault
+use Rattle.dm_store.specs.declared.taking.TakeFault.TheVariants as fault
 use Rattle.script_run.specs.declared.outcome.Due.{Due}
 use Rattle.script_run.specs.declared.outcome.Due.TheVariants as due
 use Rattle.script_run.specs.declared.outcome.Outcome.{Outcome}

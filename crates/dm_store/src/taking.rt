@@ -25,7 +25,7 @@ pub enum TakeFault {
 
 impl From<Failed> for TakeFault {
     ghost use Rattle.std.specs.Prelude.{◌≡◌};
-    ghost use Rattle.dm_store.specs.declared.read_all.TakeFault.TheVariants as fault;
+    ghost use Rattle.dm_store.specs.declared.taking.TakeFault.TheVariants as fault;
 
     ghost from_gives = { λ _ e. e ≡ fault.Failed };
 
@@ -36,7 +36,7 @@ impl From<Failed> for TakeFault {
 
 impl From<AllocError> for TakeFault {
     ghost use Rattle.std.specs.Prelude.{◌≡◌};
-    ghost use Rattle.dm_store.specs.declared.read_all.TakeFault.TheVariants.{Memory};
+    ghost use Rattle.dm_store.specs.declared.taking.TakeFault.TheVariants.{Memory};
 
     ghost from_gives = { λ _ e. e ≡ Memory };
 

@@ -1,5 +1,5 @@
 // Logged paths, both sides.
-use crate::decode_path;
+use dm_store::decode_path;
 use std::alloc::Global;
 use std::test::Fail;
 
