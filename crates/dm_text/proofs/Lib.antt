@@ -1,3 +1,4 @@
+pub mod Fronts
 pub mod Numerals
 pub mod Powers
 pub mod Points
@@ -7,3 +8,4 @@ pub mod Places
 pub mod InRange
 pub mod Spelled
 pub mod Back
+pub mod Plain

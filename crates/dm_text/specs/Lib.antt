@@ -4,3 +4,4 @@ pub mod Moments
 pub mod Reading
 pub mod Printing
 pub mod Answers
+pub mod Fronts

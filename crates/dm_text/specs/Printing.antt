@@ -44,6 +44,10 @@ clock_text t = places 2 (t / 3_600_000_000) ++ (58 ∷ places 2 (t / 60_000_000 
 abbrev pub clock_part : ℤ → ℕ
 clock_part n = unsigned_abs (int_rem_euclid n (pos 86_400_000_000))
 
+-- `yyyy-MM-dd HH:mm:ss.ffffff` of a moment
+abbrev pub moment_text : ℤ → List ℕ
+moment_text n = date_text (day_part n) ++ (32 ∷ clock_text (clock_part n))
+
 -- a value as it is printed; null as `\N`
 abbrev pub printed : Value → List ℕ
 printed value.Null = codes "\\N"
@@ -53,7 +57,7 @@ printed (value.Dec d) = decimal_text d.unscaled d.scale
 printed (value.Text t) = t
 printed (value.Bytes b) = flat_map hex_pair b
 printed (value.Day n) = date_text n
-printed (value.Micros n) = date_text (day_part n) ++ (32 ∷ clock_text (clock_part n))
+printed (value.Micros n) = moment_text n
 
 -- a backslash, tab, line feed and carriage return are written `\\`, `\t`, `\n`, `\r`
 abbrev pub escaped : ℕ → List ℕ

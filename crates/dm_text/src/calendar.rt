@@ -3,6 +3,7 @@ ghost use Rattle.std.specs.Prelude.{◌≡◌, ◌++◌, unsigned_abs, IfSome, O
 ghost use Rattle.jiff_core.specs.Calendar.{IsEpochDay};
 ghost use Rattle.dm_text.specs.Calendar as spec;
 ghost use Rattle.dm_text.specs.Calendar.{Parts};
+ghost use Rattle.dm_text.specs.Fronts.{KeepsFront};
 ghost use Rattle.dm_text.specs.Printing.{date_text, parts_text};
 ghost use Rattle.dm_types.specs.Ranges.{IsDay};
 
@@ -51,14 +52,16 @@ pub(crate) fn date_of(day: i64) -> Date
 /// Adds a date as `yyyy-MM-dd`.
 pub(crate) fn push_date(out: &mut Bytes, day: i64) -> Result<(), AllocError>
     requires { IsDay day }
-    ensures { OnOk result (out.new ≡ out.old ++ date_text day) }
+    ensures ok { OnOk result (out.new ≡ out.old ++ date_text day) }
+    ensures front { KeepsFront out.old out.new }
 {
     let date = date_of(day);
     push_parts(out, date.year.unsigned_abs(), date.month, date.day)
 }
 
 fn push_parts(out: &mut Bytes, year: u16, month: u8, day: u8) -> Result<(), AllocError>
-    ensures { OnOk result (out.new ≡ out.old ++ parts_text year month day) }
+    ensures ok { OnOk result (out.new ≡ out.old ++ parts_text year month day) }
+    ensures front { KeepsFront out.old out.new }
 {
     push_places(out, u128::from(year), 4)?;
     out.push(b'-')?;

@@ -2,6 +2,7 @@
 ghost use Rattle.std.specs.Prelude.{◌≡◌, ◌<◌, ◌≤◌, ◌+◌, ◌-◌, ◌++◌, ◌^◌, ◌==◌, position, IfSome, OnOk, option_map};
 ghost use Rattle.std.specs.Fmt.{sign_text, decimal};
 ghost use Rattle.dm_text.specs.Numbers as spec;
+ghost use Rattle.dm_text.specs.Fronts.{KeepsFront};
 ghost use Rattle.dm_text.specs.Printing.{decimal_text};
 ghost use Rattle.dm_types.specs.declared.value.Decimal.{Decimal};
 
@@ -77,7 +78,8 @@ pub(crate) fn read_fraction(text: &[u8], places: u8) -> Option<u128>
 #[tactic(auto, using(std::proofs::lemmas::Bool::Decides::nat_tests), unfolding(crate::specs::Printing::decimal_text))]
 pub(crate) fn push_decimal(out: &mut Bytes, decimal: &Decimal) -> Result<(), AllocError>
     requires { decimal.now.scale ≤ 38 }
-    ensures { OnOk result (out.new ≡ out.old ++ decimal_text decimal.now.unscaled decimal.now.scale) }
+    ensures ok { OnOk result (out.new ≡ out.old ++ decimal_text decimal.now.unscaled decimal.now.scale) }
+    ensures front { KeepsFront out.old out.new }
 {
     let size = decimal.unscaled.unsigned_abs();
     let scale = decimal.scale;

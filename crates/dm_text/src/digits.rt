@@ -5,6 +5,7 @@ ghost use Rattle.std.specs.Str.Parse.{starts_with_minus, without_leading_sign};
 ghost use Rattle.dm_types.specs.Lanes.{kept_within};
 ghost use Rattle.dm_text.specs.Calendar.{number_in};
 ghost use Rattle.dm_text.specs.Numbers as spec;
+ghost use Rattle.dm_text.specs.Fronts.{KeepsFront};
 ghost use Rattle.dm_text.specs.Printing.{places};
 
 use dm_types::{Bytes, ten_to};
@@ -95,7 +96,8 @@ pub(crate) fn read_whole(text: &[u8], bits: u32) -> Option<i64>
 /// Adds the last digits of a number, so many.
 pub(crate) fn push_places(out: &mut Bytes, number: u128, count: u8) -> Result<(), AllocError>
     requires { count ≤ 38 }
-    ensures { OnOk result (out.new ≡ out.old ++ places count number) }
+    ensures ok { OnOk result (out.new ≡ out.old ++ places count number) }
+    ensures front { KeepsFront out.old out.new }
 {
     for written in 0..count {
         let digit = number / ten_to(count - 1 - written) % 10;

@@ -2,7 +2,8 @@
 ghost use Rattle.jiff_core.specs.Calendar.{IsEpochDay};
 ghost use Rattle.std.specs.Prelude.{pos, ◌+ℤ◌, ◌*ℤ◌, ◌≡◌, ◌<◌, ◌≤◌, ◌+◌, ◌++◌, ◌∷◌, length, IfSome, OnOk};
 ghost use Rattle.dm_text.specs.Moments as spec;
-ghost use Rattle.dm_text.specs.Printing.{clock_text, clock_part, date_text};
+ghost use Rattle.dm_text.specs.Fronts.{KeepsFront};
+ghost use Rattle.dm_text.specs.Printing.{clock_text, moment_text};
 ghost use Rattle.dm_types.specs.Ranges.{IsDay, day_part};
 
 use crate::calendar::{push_date, read_date};
@@ -87,7 +88,8 @@ fn read_behind_second(text: &[u8]) -> Option<u128>
 /// Adds a time of the day as `HH:mm:ss.ffffff`.
 #[tactic(auto, using(std::proofs::lemmas::Bool::Decides::nat_tests), unfolding(crate::specs::Printing::clock_text))]
 fn push_clock(out: &mut Bytes, micros: u64) -> Result<(), AllocError>
-    ensures { OnOk result (out.new ≡ out.old ++ clock_text micros) }
+    ensures ok { OnOk result (out.new ≡ out.old ++ clock_text micros) }
+    ensures front { KeepsFront out.old out.new }
 {
     push_places(out, u128::from(micros / 3_600_000_000), 2)?;
     out.push(b':')?;
@@ -101,7 +103,8 @@ fn push_clock(out: &mut Bytes, micros: u64) -> Result<(), AllocError>
 /// Adds a moment as `yyyy-MM-dd HH:mm:ss.ffffff`.
 pub(crate) fn push_moment(out: &mut Bytes, moment: i64) -> Result<(), AllocError>
     requires { IsDay (day_part moment) }
-    ensures { OnOk result (out.new ≡ out.old ++ date_text (day_part moment) ++ (32 ∷ clock_text (clock_part moment))) }
+    ensures ok { OnOk result (out.new ≡ out.old ++ moment_text moment) }
+    ensures front { KeepsFront out.old out.new }
 {
     push_date(out, moment.div_euclid(DAY_MICROS))?;
     out.push(b' ')?;

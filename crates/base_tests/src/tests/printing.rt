@@ -1,7 +1,7 @@
 // Texts of each type, read and printed.
 ghost use Rattle.dm_types.specs.Ranges.{IsWellFormed, IsNullOrInRange};
 
-use crate::{print_field, print_value, read_value};
+use dm_text::{print_field, print_value, read_value};
 use dm_types::{Bytes, DataType, Text, Value, same};
 use std::alloc::Global;
 use std::test::Fail;
