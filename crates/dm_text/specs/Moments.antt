@@ -1,5 +1,6 @@
 -- Moments in UTC, as microseconds from 1970-01-01 00:00.
 use Rattle.std.specs.Prelude.{ℕ, ◌+◌, ◌-◌, ◌*◌, ◌==◌, ℤ, pos, ◌+ℤ◌, ◌*ℤ◌, List, [], ◌∷◌, length, take, drop, slice_index, slice_range, Bool, ◌&&◌, Option, Some, None, if◌then◌else◌}
+use Rattle.dm_types.specs.declared.value.TheConstants.{DAY_MICROS}
 use Rattle.dm_types.specs.Then.{◌>>=◌}
 use Rattle.dm_text.specs.Numbers.{below, fraction}
 use Rattle.dm_text.specs.Calendar.{number_in, date}
@@ -30,7 +31,7 @@ moment day time = do
   n ← date day
   s ← clock (take 8 time)
   f ← behind_second (drop 8 time)
-  Some (n *ℤ pos 86_400_000_000 +ℤ pos (s * 1_000_000 + f))
+  Some (n *ℤ DAY_MICROS +ℤ pos (s * 1_000_000 + f))
 
 -- the last byte is `Z`
 abbrev pub ends_in_z : List ℕ → Bool

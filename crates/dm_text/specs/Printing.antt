@@ -1,8 +1,9 @@
 -- How values are printed, and fields of a line.
-use Rattle.std.specs.Prelude.{ℕ, zero, suc, ◌+◌, ◌/◌, ◌%◌, ◌^◌, ◌==◌, ℤ, pos, unsigned_abs, List, [], ◌∷◌, ◌++◌, Bool, false, codes, if◌then◌else◌}
+use Rattle.std.specs.Prelude.{ℕ, zero, suc, ◌+◌, ◌/◌, ◌%◌, ◌^◌, ◌==◌, ℤ, unsigned_abs, List, [], ◌∷◌, ◌++◌, Bool, false, codes, if◌then◌else◌}
 use Rattle.std.specs.List.{flat_map}
 use Rattle.std.specs.Fmt.{decimal, signed_decimal, digit_glyph, sign_text}
 use Rattle.std.specs.Int.{is_negative, int_rem_euclid}
+use Rattle.dm_types.specs.declared.value.TheConstants.{DAY_MICROS}
 use Rattle.dm_types.specs.Ranges.{day_part}
 use Rattle.dm_types.specs.declared.value.Value.{Value}
 use Rattle.dm_types.specs.declared.value.Value.TheVariants as value
@@ -42,7 +43,7 @@ clock_text t = places 2 (t / 3_600_000_000) ++ (58 ∷ places 2 (t / 60_000_000 
 
 -- the microseconds of a moment's day
 abbrev pub clock_part : ℤ → ℕ
-clock_part n = unsigned_abs (int_rem_euclid n (pos 86_400_000_000))
+clock_part n = unsigned_abs (int_rem_euclid n (DAY_MICROS))
 
 -- `yyyy-MM-dd HH:mm:ss.ffffff` of a moment
 abbrev pub moment_text : ℤ → List ℕ

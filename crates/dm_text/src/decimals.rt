@@ -7,13 +7,13 @@ ghost use Rattle.dm_text.specs.Printing.{decimal_text};
 ghost use Rattle.dm_types.specs.declared.value.Decimal.{Decimal};
 
 use crate::digits::{push_places, read_digits, read_few, split_sign, with_sign};
-use dm_types::{Bytes, Decimal, ten_to};
+use dm_types::{Bytes, Decimal, MAX_PRECISION, ten_to};
 use itoa::Buffer;
 use std::alloc::AllocError;
 
 /// A decimal number of a precision and a scale.
 pub(crate) fn read_decimal(text: &[u8], precision: u8, scale: u8) -> Option<Decimal>
-    requires precise { precision ≤ 38 }
+    requires precise { precision ≤ MAX_PRECISION }
     requires scaled { scale ≤ precision }
     ensures { result ≡ option_map (λ n. record { unscaled = n; scale = scale }) (spec.decimal_number precision scale text.now) }
 {
@@ -26,9 +26,9 @@ pub(crate) fn read_decimal(text: &[u8], precision: u8, scale: u8) -> Option<Deci
 // A number without a sign, in units of its last place.
 #[tactic(auto, using(std::proofs::lemmas::Bool::Decides::nat_tests), unfolding(crate::specs::Numbers::fixed_point))]
 fn read_fixed(text: &[u8], room: u8, scale: u8) -> Option<u128>
-    requires { room + scale ≤ 38 }
+    requires { room + scale ≤ MAX_PRECISION }
     ensures value { result ≡ spec.fixed_point room scale text.now }
-    ensures bound { IfSome result (λ n. n < 10 ^ 38) }
+    ensures bound { IfSome result (λ n. n < 10 ^ MAX_PRECISION) }
 {
     match point_of(text) {
         None => read_front(text, room, scale),
@@ -49,7 +49,7 @@ fn point_of(text: &[u8]) -> Option<usize>
 
 // The digits before the point.
 fn read_front(text: &[u8], room: u8, scale: u8) -> Option<u128>
-    requires { room + scale ≤ 38 }
+    requires { room + scale ≤ MAX_PRECISION }
     ensures value { result ≡ spec.front room scale text.now }
     ensures bound { IfSome result (λ n. n + 10 ^ scale ≤ 10 ^ (room + scale)) }
 {
@@ -63,7 +63,7 @@ fn read_front(text: &[u8], room: u8, scale: u8) -> Option<u128>
 
 /// The digits behind a point, in units of the last place.
 pub(crate) fn read_fraction(text: &[u8], places: u8) -> Option<u128>
-    requires { places ≤ 38 }
+    requires { places ≤ MAX_PRECISION }
     ensures value { result ≡ spec.fraction places text.now }
     ensures bound { IfSome result (λ n. n < 10 ^ places) }
 {
@@ -77,7 +77,7 @@ pub(crate) fn read_fraction(text: &[u8], places: u8) -> Option<u128>
 /// Adds the text of a decimal number.
 #[tactic(auto, using(std::proofs::lemmas::Bool::Decides::nat_tests), unfolding(crate::specs::Printing::decimal_text))]
 pub(crate) fn push_decimal(out: &mut Bytes, decimal: &Decimal) -> Result<(), AllocError>
-    requires { decimal.now.scale ≤ 38 }
+    requires { decimal.now.scale ≤ MAX_PRECISION }
     ensures ok { OnOk result (out.new ≡ out.old ++ decimal_text decimal.now.unscaled decimal.now.scale) }
     ensures front { KeepsFront out.old out.new }
 {

@@ -8,7 +8,7 @@ ghost use Rattle.dm_text.specs.Numbers as spec;
 ghost use Rattle.dm_text.specs.Fronts.{KeepsFront};
 ghost use Rattle.dm_text.specs.Printing.{places};
 
-use dm_types::{Bytes, ten_to};
+use dm_types::{Bytes, MAX_PRECISION, ten_to};
 use std::alloc::AllocError;
 use std::str;
 
@@ -33,7 +33,7 @@ pub(crate) fn read_digits(text: &[u8]) -> Option<u128>
 
 /// The number that a few digits write.
 pub(crate) fn read_few(text: &[u8]) -> Option<u128>
-    requires { length text.now ≤ 38 }
+    requires { length text.now ≤ MAX_PRECISION }
     ensures { result ≡ spec.numeral text.now }
 {
     read_digits(text)
@@ -95,7 +95,7 @@ pub(crate) fn read_whole(text: &[u8], bits: u32) -> Option<i64>
 
 /// Adds the last digits of a number, so many.
 pub(crate) fn push_places(out: &mut Bytes, number: u128, count: u8) -> Result<(), AllocError>
-    requires { count ≤ 38 }
+    requires { count ≤ MAX_PRECISION }
     ensures ok { OnOk result (out.new ≡ out.old ++ places count number) }
     ensures front { KeepsFront out.old out.new }
 {

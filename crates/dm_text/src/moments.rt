@@ -1,6 +1,6 @@
 // Moments, both ways.
 ghost use Rattle.jiff_core.specs.Calendar.{IsEpochDay};
-ghost use Rattle.std.specs.Prelude.{pos, ◌+ℤ◌, ◌*ℤ◌, ◌≡◌, ◌<◌, ◌≤◌, ◌+◌, ◌++◌, ◌∷◌, length, IfSome, OnOk};
+ghost use Rattle.std.specs.Prelude.{pos, ◌<ℤ◌, ◌+ℤ◌, ◌*ℤ◌, ◌≡◌, ◌<◌, ◌≤◌, ◌+◌, ◌++◌, ◌∷◌, length, IfSome, OnOk};
 ghost use Rattle.dm_text.specs.Moments as spec;
 ghost use Rattle.dm_text.specs.Fronts.{KeepsFront};
 ghost use Rattle.dm_text.specs.Printing.{clock_text, moment_text};
@@ -41,8 +41,8 @@ fn read_moment(day: &[u8], time: &[u8]) -> Option<i64>
 
 fn moment_of(days: i32, micros: u128) -> i64
     requires day { IsEpochDay days }
-    requires clock { micros < 86_400_000_000 }
-    ensures { result ≡ days *ℤ pos 86_400_000_000 +ℤ pos micros }
+    requires clock { pos micros <ℤ DAY_MICROS }
+    ensures { result ≡ days *ℤ DAY_MICROS +ℤ pos micros }
 {
     i64::from(days) * DAY_MICROS + micros as i64
 }

@@ -1,7 +1,8 @@
 // The objects in memory, each on its way without faults and with one that is planned.
 use dm_store::{
     ClaimStore, Clock, MemoryClock, MemoryNames, MemorySink, MemorySource, MemoryStore, NameSource,
-    PutFault, ReadFault, Sink, Store, SureNames, SureSink, SureSource, SureStore, TakeFault, take_all,
+    PutFault, ReadFault, Sink, Store, SureNames, SureSink, SureSource, SureStore, TakeFault,
+    take_all,
 };
 use dm_types::{Bytes, CountList, NameList, Text, TextList, WholeList};
 use std::alloc::Global;

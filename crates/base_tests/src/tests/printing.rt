@@ -56,7 +56,7 @@ fn reads_as(alloc: Global, kind: &DataType, text: &str, printed: &str) -> Result
 {
     let value = read_value(alloc, text.as_bytes(), kind)?;
     let mut out = Bytes::new(alloc);
-    print_value(alloc, &value, kind, &mut out)?;
+    print_value(&value, kind, &mut out)?;
     Ok(out.as_slice() == printed.as_bytes())
 }
 
@@ -276,7 +276,7 @@ fn field_is(alloc: Global, value: &Value, kind: &DataType, wanted: &str) -> Resu
     requires { IsNullOrInRange kind.now value.now }
 {
     let mut out = Bytes::new(alloc);
-    print_field(alloc, value, kind, &mut out)?;
+    print_field(value, kind, &mut out)?;
     Ok(out.as_slice() == wanted.as_bytes())
 }
 
@@ -304,9 +304,9 @@ fn padded(alloc: Global) -> Result<Text, Fail> {
     Ok(text)
 }
 
-fn print_moment(alloc: Global, out: &mut Bytes) -> Result<(), Fail> {
+fn print_moment(out: &mut Bytes) -> Result<(), Fail> {
     let value = Value::Micros(1_709_210_096_700_000);
-    print_field(alloc, &value, &DataType::Timestamp, out)?;
+    print_field(&value, &DataType::Timestamp, out)?;
     Ok(())
 }
 
@@ -314,7 +314,7 @@ fn print_moment(alloc: Global, out: &mut Bytes) -> Result<(), Fail> {
 fn print_many(alloc: Global, count: usize) -> Result<Bytes, Fail> {
     let mut out = Bytes::new(alloc);
     for _ in 0..count {
-        print_moment(alloc, &mut out)?;
+        print_moment(&mut out)?;
     }
     Ok(out)
 }

@@ -1,6 +1,7 @@
 // Texts, their order, and causes of a stop.
 use dm_types::{
-    Bytes, Exact, Items, PutRefusal, Refused, StatementRefusal, Stop, TableRefusal, Text, TextList, sort_texts,
+    Bytes, Exact, Items, PutRefusal, Refused, StatementRefusal, Stop, TableRefusal, Text, TextList,
+    sort_texts,
 };
 use std::alloc::{AllocError, Global};
 use std::collections::HashSet;

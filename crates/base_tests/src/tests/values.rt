@@ -27,7 +27,7 @@ fn stand(a: &Value, b: &Value, expected: Option<Ordering>) -> bool {
 }
 
 #[test]
-fn decimals_compare_by_value(rt: HostRuntime) -> Result<(), Fail> {
+fn decimals_compare_by_value(rt: HostRuntime) {
     for (a, b, expected) in [
         (decimal(15, 1), decimal(150, 2), Ordering::Equal),
         (decimal(15, 1), decimal(149, 2), Ordering::Greater),
@@ -46,11 +46,32 @@ fn decimals_compare_by_value(rt: HostRuntime) -> Result<(), Fail> {
     ] {
         assert!(rt; stand(&a, &b, Some(expected)));
     }
+}
+
+// Whether two texts stand so, as texts and as bytes.
+fn texts_stand(alloc: Global, a: &str, b: &str, expected: Ordering) -> Result<bool, AllocError> {
+    let as_texts = stand(&text(alloc, a)?, &text(alloc, b)?, Some(expected));
+    let as_bytes = stand(
+        &bytes(alloc, a.as_bytes())?,
+        &bytes(alloc, b.as_bytes())?,
+        Some(expected),
+    );
+    Ok(as_texts && as_bytes)
+}
+
+#[test]
+fn texts_and_bytes_compare_by_their_bytes(rt: HostRuntime) -> Result<(), Fail> {
+    let alloc = rt.alloc();
+    for (a, b) in [("B", "a"), ("a", "ab"), ("z", "\u{e9}"), ("\x7f", "\u{80}")] {
+        assert!(rt; texts_stand(alloc, a, b, Ordering::Less)?);
+    }
+    assert!(rt; texts_stand(alloc, "a", "a", Ordering::Equal)?);
+    assert!(rt; stand(&text(alloc, "a")?, &bytes(alloc, b"a")?, None));
     Ok(())
 }
 
 #[test]
-fn values_compare_within_their_kind(rt: HostRuntime) -> Result<(), Fail> {
+fn values_compare_within_their_kind(rt: HostRuntime) {
     for (a, b, expected) in [
         (Value::Bool(false), Value::Bool(true), Some(Ordering::Less)),
         (Value::Int(-1), Value::Int(1), Some(Ordering::Less)),
@@ -61,34 +82,12 @@ fn values_compare_within_their_kind(rt: HostRuntime) -> Result<(), Fail> {
         (Value::Int(1), Value::Day(1), None),
         (Value::Int(1), Value::Micros(1), None),
         (Value::Int(1), decimal(1, 0), None),
-        (text(rt.alloc(), "a")?, bytes(rt.alloc(), b"a")?, None),
-        (
-            text(rt.alloc(), "B")?,
-            text(rt.alloc(), "a")?,
-            Some(Ordering::Less),
-        ),
-        (
-            text(rt.alloc(), "a")?,
-            text(rt.alloc(), "ab")?,
-            Some(Ordering::Less),
-        ),
-        (
-            text(rt.alloc(), "z")?,
-            text(rt.alloc(), "\u{e9}")?,
-            Some(Ordering::Less),
-        ),
-        (
-            bytes(rt.alloc(), b"\x7f")?,
-            bytes(rt.alloc(), b"\x80")?,
-            Some(Ordering::Less),
-        ),
     ] {
         assert!(rt; stand(&a, &b, expected));
     }
     assert!(rt; same(&Value::Null, &Value::Null));
     assert!(rt; !same(&Value::Null, &Value::Bool(false)));
     assert!(rt; same(&decimal(15, 1), &decimal(1500, 3)));
-    Ok(())
 }
 
 // Whether a lane keeps a value, and gives it back.
