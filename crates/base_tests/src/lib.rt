@@ -1,4 +1,5 @@
-//! Tests of the public calls of the crates at the bottom: types, texts of values and the outside.
+//! Tests of the public calls of the crates at the bottom: types, texts of values, the outside in
+//! memory and the real one.
 #![tactic(auto)]
 
 #[cfg(test)]

@@ -1,6 +1,8 @@
-// Tests of dm_types, dm_text and dm_store.
+// Tests of dm_types, dm_text, dm_store and dm_system.
+mod folder;
 mod outside;
 mod paths;
 mod printing;
+mod streams;
 mod texts;
 mod values;

@@ -2,12 +2,7 @@
 //! to standard output, and the exit status is that of the run.
 #![tactic(auto)]
 
-mod clock;
-mod folder;
-mod input;
-mod names;
-mod output;
-
+use dm_system::{Folder, RandomNames, ReaderSource, SystemClock, WriterSink};
 use std::alloc::AllocGlobal;
 use std::io::ErrorKind;
 use std::process::ExitCode;
@@ -24,11 +19,11 @@ fn main(rt: HostRuntime) -> ExitCode {
     let status = script_run::run(
         rt.alloc(),
         words.as_slice(),
-        &mut input::ReaderSource::new(rt.stdin()),
-        &mut folder::Folder::new(rt),
-        &mut output::WriterSink::new(rt.stdout()),
-        &mut clock::SystemClock::new(rt),
-        &mut names::RandomNames::new(rt),
+        &mut ReaderSource::new(rt.stdin()),
+        &mut Folder::new(rt),
+        &mut WriterSink::new(rt.stdout()),
+        &mut SystemClock::new(rt),
+        &mut RandomNames::new(rt),
     );
     ExitCode::from(status)
 }

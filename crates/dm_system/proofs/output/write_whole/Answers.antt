@@ -2,7 +2,7 @@ use Rattle.std.proofs.Common.{◌-◌, ◌++◌, length, take, drop, sym, ap, su
 use Rattle.std.proofs.Math.Seq.{take-add, take-take}
 use Rattle.std.specs.Io.KnownBytes.{Appends}
 use Rattle.std.proofs.KnownBytes.{Appends-trans}
-use Rattle.deltamerge.proofs.output.write_whole.Goals as goal
+use Rattle.dm_system.proofs.output.write_whole.Goals as goal
 
 -- what was done before, and then what this write took
 pub loop-done-preserved : goal.loop-done-preserved

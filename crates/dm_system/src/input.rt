@@ -1,8 +1,11 @@
 // A reader as a source, as standard input.
 ghost use Rattle.std.specs.Prelude.{◌≡◌};
+ghost use Rattle.std.specs.Io.{ReadsAtMost};
+ghost use Rattle.std.specs.Io.KnownBytes.{ReadConsumes};
 
 use dm_store::{Failed, Source};
-use std::io::Read;
+use std::io;
+use std::io::{ErrorKind, Read};
 
 /// A source over a reader. It tells what is left where the reader does; standard input doesn't.
 #[derive(Drop)]
@@ -13,6 +16,7 @@ pub struct ReaderSource<I> {
 }
 
 impl<I> ReaderSource<I> {
+    /// A source whose calls haven't failed.
     pub fn new(reader: I) -> ReaderSource<I>
         ensures { result.faults ≡ 0 }
     {
@@ -26,7 +30,7 @@ impl<I: Read> Source for ReaderSource<I> {
     ghost faults = { λ s. s.faults };
 
     fn take(&mut self, buf: &mut [u8]) -> Result<usize, Failed> {
-        match self.reader.read(buf) {
+        match read_again(&mut self.reader, buf) {
             Ok(count) => Ok(count),
             Err(_) => {
                 self.faults = self.faults.saturating_add(1);
@@ -36,16 +40,16 @@ impl<I: Read> Source for ReaderSource<I> {
     }
 }
 
-#[cfg(test)]
-mod tests {
-    use super::*;
-
-    // Standard input may be closed, or hold anything.
-    #[test]
-    fn takes_at_most_the_buffer(rt: HostRuntime) {
-        let mut script = ReaderSource::new(rt.stdin());
-        let mut buf = [0; 8];
-        let count = script.take(&mut buf).unwrap_or(0);
-        assert!(rt; count <= 8);
+// One read; one that is interrupted is made again.
+fn read_again<I: Read>(reader: &mut I, buf: &mut [u8]) -> io::Result<usize>
+    ensures bound { ReadsAtMost result buf.new }
+    ensures bytes { ReadConsumes (I.remaining reader.old) (I.remaining reader.new) result buf.new }
+{
+    for _turn in 0..u64::MAX {
+        match reader.read(buf) {
+            Err(error) if error.kind() == ErrorKind::Interrupted => {}
+            answer => return answer,
+        }
     }
+    Err(io::Error::from(ErrorKind::Interrupted))
 }

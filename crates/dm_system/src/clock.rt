@@ -11,6 +11,7 @@ pub struct SystemClock<R> {
 }
 
 impl<R> SystemClock<R> {
+    /// The clock of this runtime.
     pub fn new(rt: R) -> SystemClock<R> {
         SystemClock { rt }
     }
@@ -25,16 +26,5 @@ impl<R: time::Clock> Clock for SystemClock<R> {
             Ok(time) => i64::try_from(time.as_millis()).unwrap_or(i64::MAX),
             Err(_) => 0,
         }
-    }
-}
-
-#[cfg(test)]
-mod tests {
-    use super::*;
-
-    #[test]
-    fn stands_after_2020(rt: HostRuntime) {
-        let now = SystemClock::new(rt).now_ms();
-        assert!(rt; now > 1_577_836_800_000, "at {now}");
     }
 }

@@ -16,7 +16,7 @@ use std::{fs, io};
 /// The files below the working folder of a runtime. It tells none of them.
 ///
 /// A file gets its name when its bytes are on the disk, and no name is given twice, whoever else
-/// writes there. A symbolic link to a file is that file.
+/// writes there. A symbolic link to a file is that file. What lies below a plain file is absent.
 #[derive(Drop)]
 pub struct Folder<R> {
     rt: R,
@@ -27,6 +27,7 @@ pub struct Folder<R> {
 }
 
 impl<R> Folder<R> {
+    /// The files of this runtime, of whose calls none has failed.
     pub fn new(rt: R) -> Folder<R>
         ensures faults { result.faults ≡ 0 }
         ensures taken { result.taken ≡ 0 }
@@ -64,7 +65,7 @@ impl<R: Files + AllocGlobal + RandomSource + Clone + Drop> Store for Folder<R> {
     fn read(&mut self, alloc: Global, path: &str) -> Result<Bytes, ReadFault> {
         match whole_file(&self.rt, alloc, path) {
             Ok(bytes) => Ok(bytes),
-            Err(error) if error.kind() == ErrorKind::NotFound => Err(ReadFault::Absent),
+            Err(error) if is_absent(error.kind()) => Err(ReadFault::Absent),
             Err(error) if error.kind() == ErrorKind::OutOfMemory => Err(ReadFault::Memory),
             Err(_) => {
                 self.faults = self.faults.saturating_add(1);
@@ -89,6 +90,11 @@ impl<R: Files + AllocGlobal + RandomSource + Clone + Drop> Store for Folder<R> {
     }
 }
 
+// Whether nothing has the path: a part of it isn't there, or is a plain file where a folder is due.
+fn is_absent(kind: ErrorKind) -> bool {
+    matches!(kind, ErrorKind::NotFound | ErrorKind::NotADirectory)
+}
+
 // The names of the files directly below a folder; none where the folder is absent.
 fn file_names<R: Files + AllocGlobal + Clone + Drop>(
     rt: &R,
@@ -98,7 +104,7 @@ fn file_names<R: Files + AllocGlobal + Clone + Drop>(
     let mut names = TextList::new(alloc);
     let entries = match fs::read_dir(rt, dir) {
         Ok(entries) => entries,
-        Err(error) if error.kind() == ErrorKind::NotFound => return Ok(names),
+        Err(error) if is_absent(error.kind()) => return Ok(names),
         Err(error) => return Err(error),
     };
     for entry in entries {
@@ -141,10 +147,7 @@ fn put_absent<R: Files + AllocGlobal + RandomSource>(
     let folder = path.rsplit_once('/').map_or(".", |(folder, _)| folder);
     fs::create_dir_all(rt, folder)?;
     let temporary = temporary_name(rt, path)?;
-    let put = put_by_name(rt, temporary.as_str(), path, bytes);
-    // A temporary name that is left behind is in nobody's way, so only faults of the put are told.
-    let _ = fs::remove_file(rt, temporary.as_str());
-    if !put? {
+    if !put_by_name(rt, temporary.as_str(), path, bytes)? {
         return Ok(false);
     }
     // The file is there by now, so no fault of this call may be told as want of memory.
@@ -177,9 +180,27 @@ fn temporary_name<R: AllocGlobal + RandomSource>(rt: &R, path: &str) -> io::Resu
 }
 
 // Writes the bytes under the temporary name, and gives the file its own name once they are on the
-// disk, unless that is there. Says whether it did.
+// disk, unless that is there. Says whether it did. A temporary name that somebody else has is left as
+// it is, and is a fault.
 fn put_by_name(files: &impl Files, temporary: &str, path: &str, bytes: &[u8]) -> io::Result<bool> {
-    write_file(files, temporary, bytes)?;
+    let file = File::create_new(files, temporary)?;
+    let put = put_file(files, file, temporary, path, bytes);
+    // A temporary name that is left behind is in nobody's way, so only faults of the put are told.
+    let _ = fs::remove_file(files, temporary);
+    put
+}
+
+// Writes the bytes to the new file, and gives it its own name.
+fn put_file<F: Files>(
+    files: &F,
+    file: F::File,
+    temporary: &str,
+    path: &str,
+    bytes: &[u8],
+) -> io::Result<bool> {
+    let mut file = file;
+    write_whole(&mut file, bytes)?;
+    file.sync_all()?;
     link_absent(files, temporary, path)
 }
 
@@ -198,12 +219,6 @@ fn link_absent(files: &impl Files, temporary: &str, path: &str) -> io::Result<bo
 // Brings the names in a folder to the disk.
 fn sync_folder(files: &impl Files, folder: &str) -> io::Result<()> {
     File::open(files, folder)?.sync_all()
-}
-
-fn write_file(files: &impl Files, path: &str, bytes: &[u8]) -> io::Result<()> {
-    let mut file = File::create_new(files, path)?;
-    write_whole(&mut file, bytes)?;
-    file.sync_all()
 }
 
 #[cfg(test)]

@@ -1,6 +1,6 @@
 use Rattle.std.proofs.Common.{length-append, arith}
 use Rattle.std.proofs.lemmas.Grind.{common_steps}
-use Rattle.deltamerge.proofs.folder.temporary_name.Goals as goal
+use Rattle.dm_system.proofs.folder.temporary_name.Goals as goal
 
 pub returns : goal.returns
 returns g c =

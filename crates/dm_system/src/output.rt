@@ -1,6 +1,8 @@
 // A writer as a sink, as standard output.
 ghost use Rattle.std.specs.Prelude.{◌≡◌};
-ghost use Rattle.deltamerge.specs.Pieces.{WritesWhole};
+ghost use Rattle.std.specs.Io.{WritesAtMost};
+ghost use Rattle.std.specs.Io.KnownBytes.{WriteAppends};
+ghost use Rattle.dm_system.specs.Pieces.{WritesWhole};
 
 use dm_store::{Sink, SinkFault};
 use std::io;
@@ -15,6 +17,7 @@ pub struct WriterSink<W> {
 }
 
 impl<W> WriterSink<W> {
+    /// A sink whose calls haven't failed.
     pub fn new(writer: W) -> WriterSink<W>
         ensures { result.faults ≡ 0 }
     {
@@ -38,13 +41,13 @@ impl<W: Write> Sink for WriterSink<W> {
     }
 }
 
-/// Writes the whole piece and flushes it. A write that takes nothing is a fault.
-pub fn write_whole<W: Write>(writer: &mut W, piece: &[u8]) -> io::Result<()>
+// Writes the whole piece and flushes it. A write that takes nothing is a fault.
+pub(crate) fn write_whole<W: Write>(writer: &mut W, piece: &[u8]) -> io::Result<()>
     ensures { WritesWhole piece.now (W.contents writer.old) (W.contents writer.new) result }
 {
     let mut done = 0;
     while done < piece.len() {
-        let count = writer.write(&piece[done..])?;
+        let count = write_again(writer, &piece[done..])?;
         if count == 0 {
             return Err(io::Error::from(ErrorKind::WriteZero));
         }
@@ -53,23 +56,16 @@ pub fn write_whole<W: Write>(writer: &mut W, piece: &[u8]) -> io::Result<()>
     writer.flush()
 }
 
-#[cfg(test)]
-mod tests {
-    use super::*;
-    use std::test::Fail;
-
-    #[test]
-    fn puts_whole_pieces(rt: HostRuntime) -> Result<(), Fail> {
-        let mut out = WriterSink::new(rt.stdout());
-        out.put(b"")?;
-        out.put(b"a text\n")?;
-        assert_eq!(rt; out.faults, 0);
-
-        // Its second write takes nothing.
-        let mut room = [0; 4];
-        let mut short = WriterSink::new(room.as_mut_slice());
-        assert_eq!(rt; short.put(b"a text\n"), Err(SinkFault::Failed));
-        assert_eq!(rt; short.faults, 1);
-        Ok(())
+// One write; one that is interrupted before it takes anything is made again.
+fn write_again<W: Write>(writer: &mut W, bytes: &[u8]) -> io::Result<usize>
+    ensures bound { WritesAtMost result bytes.now }
+    ensures bytes { WriteAppends (W.contents writer.old) (W.contents writer.new) result bytes.now }
+{
+    for _turn in 0..u64::MAX {
+        match writer.write(bytes) {
+            Err(error) if error.kind() == ErrorKind::Interrupted => {}
+            answer => return answer,
+        }
     }
+    Err(io::Error::from(ErrorKind::Interrupted))
 }

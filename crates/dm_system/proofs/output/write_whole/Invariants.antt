@@ -1,7 +1,7 @@
 -- Each turn writes some bytes, and what is done is what was appended.
 use Rattle.std.proofs.Common.{◌-◌, ◌≤◌, length, take}
 use Rattle.std.specs.Io.KnownBytes.{Appends}
-use Rattle.deltamerge.proofs.output.write_whole.Given as goal
+use Rattle.dm_system.proofs.output.write_whole.Given as goal
 
 abbrev pub invariant-loop-done : goal.invariant-loop-done
 invariant-loop-done g l = record {
