@@ -6,7 +6,7 @@ use Rattle.delta_actions.specs.declared.action.AddAction.{AddAction}
 use Rattle.delta_actions.specs.declared.action.Action.{Action}
 use Rattle.log_replay.specs.declared.commits.Commit.{Commit}
 use Rattle.log_replay.specs.Live.{AreNumbered, added, is_add, live_adds, paths_of}
-use Rattle.log_replay.specs.Deciding.{adds, mentions, removes, last_adds, after_commit}
+use Rattle.log_replay.specs.Changes.{adds, mentions, removes, last_adds, after_commit}
 use Rattle.log_replay.proofs.Numbered.{numbers_grow}
 use Rattle.log_replay.proofs.Replaying.{live_adds-push}
 use Rattle.log_replay.proofs.Deciding.{mentions-kinds}

@@ -9,7 +9,7 @@ use Rattle.delta_actions.specs.declared.action.AddAction.{AddAction}
 use Rattle.delta_actions.specs.declared.action.Action.{Action}
 use Rattle.log_replay.specs.declared.commits.Commit.{Commit}
 use Rattle.log_replay.specs.Live.{AreNumbered, Line, line_at, lines_of, lines, added, is_add, is_of, takes_away, live_of, live_at, live_adds}
-use Rattle.log_replay.specs.Deciding.{mentions, adds, unless_again, last_adds, after_commit}
+use Rattle.log_replay.specs.Changes.{mentions, adds, unless_again, last_adds, after_commit}
 
 lines-push : (cs : List Commit) (c : Commit) → lines (cs ++ c ∷ []) ≡ lines cs ++ lines_of c.version 0 c.actions
 unfolding lines

@@ -1,5 +1,6 @@
 pub mod Numbers
 pub mod Live
+pub mod Changes
 pub mod Force
 pub mod Replay
-pub mod Deciding
+pub mod StepsLive

@@ -7,7 +7,7 @@ ghost use Rattle.delta_actions.specs.declared.action.Action.TheVariants as actio
 ghost use Rattle.log_replay.specs.declared.commits.Commit.{Commit as ACommit};
 ghost use Rattle.log_replay.specs.Numbers.{MembersDecide};
 ghost use Rattle.log_replay.specs.Live.{AreNumbered, live_adds, paths_of, is_add};
-ghost use Rattle.log_replay.specs.Deciding.{mentions, removes, last_adds};
+ghost use Rattle.log_replay.specs.Changes.{mentions, removes, last_adds};
 
 /// A law: the newest version, or the fault, is told by the members of a list alone, whatever their
 /// order and how often they stand there.

@@ -1,14 +1,15 @@
 // The live files of a log.
-ghost use Rattle.std.specs.Prelude.{◌≡◌, ◌++◌, ◌||◌, ℕ, List, Some, None, IfOk, OnOk, map, option_copied, option_to_list};
+ghost use Rattle.std.specs.Prelude.{◌≡◌, ◌++◌, ◌||◌, ℕ, List, Some, None, IfOk, OnOk, map, reverse, option_copied};
 ghost use Rattle.delta_actions.specs.declared.action.AddAction.{AddAction as AnAdd};
+ghost use Rattle.log_replay.specs.Changes.{adds, removes, mentions, last_adds};
 ghost use Rattle.log_replay.specs.Live.{AreNumbered, live_adds, paths_of, added as added_of};
-ghost use Rattle.log_replay.specs.Deciding.{adds, removes, mentions, last_adds, is_decided, undecided, decide as decided, after_add, after_remove, live_among, removed as removed_of};
+ghost use Rattle.log_replay.specs.StepsLive.{is_decided, undecided, Decides, DecidesAdd, DecidesRemove, removed as removed_of};
 
 use crate::commits::{Commit, Commits};
 use delta_actions::{Action, AddAction};
 use dm_types::{Items, Text, TextList};
-use indexmap::IndexMap;
 use std::alloc::{AllocError, Global};
+use std::collections::BTreeSet;
 
 /// What is kept of a live file.
 pub(crate) trait Kept: Drop {
@@ -37,8 +38,14 @@ impl Kept for AddAction {
     }
 }
 
-// What is kept of each path by its newest action, which decides whether it is live.
-type Newest<T> = IndexMap<Text, Option<T>>;
+// What the newest actions decide: their paths, and what is kept of each file that is live. The set is
+// ordered, so that no choice of paths makes a look-up slow.
+#[derive(Drop)]
+struct Newest<T> {
+    decided: BTreeSet<Text>,
+    // The file that stands last in the log first.
+    kept: Items<T>,
+}
 
 /// The paths of the live files in log order: by version, then by line (PROTOCOL.md, "Action
 /// Reconciliation").
@@ -59,35 +66,27 @@ pub(crate) fn live_files<T: Kept>(alloc: Global, commits: &Commits) -> Result<It
     ensures { IfOk result (λ files. files ≡ map T.kept (live_adds commits.now)) }
 {
     let newest = decide_all::<T>(alloc, commits.as_slice())?;
-    in_log_order(alloc, newest)
+    Ok(in_log_order(newest))
 }
 
 // What is kept of the live files, the one that was decided last first: that is log order.
-fn in_log_order<T: Kept>(alloc: Global, mut newest: Newest<T>) -> Result<Items<T>, AllocError>
-    ensures { IfOk result (λ files. files ≡ live_among newest.entries) }
+fn in_log_order<T: Kept>(newest: Newest<T>) -> Items<T>
+    ensures { result ≡ reverse newest.kept }
 {
-    let mut files = Items::new(alloc);
-    while let Some((_, kept)) = newest.pop() {
-        push_kept(&mut files, kept)?;
-    }
-    Ok(files)
-}
-
-fn push_kept<T: Kept>(files: &mut Items<T>, kept: Option<T>) -> Result<(), AllocError>
-    ensures { OnOk result (files.new ≡ files.old ++ option_to_list kept) }
-{
-    match kept {
-        Some(file) => files.push(file),
-        None => Ok(()),
-    }
+    let mut files = newest.kept.into_vec();
+    files.reverse();
+    Items::from_vec(files)
 }
 
 // What the newest actions of the log decide.
 fn decide_all<T: Kept>(alloc: Global, commits: &[Commit]) -> Result<Newest<T>, AllocError>
     requires { AreNumbered 0 commits.now }
-    ensures { IfOk result (λ newest. live_among newest.entries ≡ map T.kept (live_adds commits.now)) }
+    ensures { IfOk result (λ newest. reverse newest.kept ≡ map T.kept (live_adds commits.now)) }
 {
-    let mut newest = Newest::new(alloc);
+    let mut newest = Newest {
+        decided: BTreeSet::new(alloc),
+        kept: Items::new(alloc),
+    };
     let mut rest = commits;
     while let Some((commit, earlier)) = rest.split_last() {
         decide_commit(&mut newest, commit.actions.as_slice())?;
@@ -98,9 +97,10 @@ fn decide_all<T: Kept>(alloc: Global, commits: &[Commit]) -> Result<Newest<T>, A
 
 // What a commit decides: its adds stand behind its removes, whatever the order of its lines.
 fn decide_commit<T: Kept>(newest: &mut Newest<T>, commit: &[Action]) -> Result<(), AllocError>
-    ensures seen { OnOk result ((path : List ℕ) → is_decided newest.new.entries path ≡ (is_decided newest.old.entries path || mentions commit.now path)) }
-    ensures live { OnOk result (live_among newest.new.entries
-        ≡ map T.kept (undecided newest.old.entries (last_adds commit.now)) ++ live_among newest.old.entries) }
+    ensures seen { OnOk result ((path : List ℕ) → is_decided newest.new.decided.keys path
+        ≡ (is_decided newest.old.decided.keys path || mentions commit.now path)) }
+    ensures live { OnOk result (reverse newest.new.kept
+        ≡ map T.kept (undecided newest.old.decided.keys (last_adds commit.now)) ++ reverse newest.old.kept) }
 {
     decide_adds(newest, commit)?;
     decide_removes(newest, commit)?;
@@ -109,9 +109,10 @@ fn decide_commit<T: Kept>(newest: &mut Newest<T>, commit: &[Action]) -> Result<(
 
 // The adds of a commit, the last first.
 fn decide_adds<T: Kept>(newest: &mut Newest<T>, commit: &[Action]) -> Result<(), AllocError>
-    ensures seen { OnOk result ((path : List ℕ) → is_decided newest.new.entries path ≡ (is_decided newest.old.entries path || adds commit.now path)) }
-    ensures live { OnOk result (live_among newest.new.entries
-        ≡ map T.kept (undecided newest.old.entries (last_adds commit.now)) ++ live_among newest.old.entries) }
+    ensures seen { OnOk result ((path : List ℕ) → is_decided newest.new.decided.keys path
+        ≡ (is_decided newest.old.decided.keys path || adds commit.now path)) }
+    ensures live { OnOk result (reverse newest.new.kept
+        ≡ map T.kept (undecided newest.old.decided.keys (last_adds commit.now)) ++ reverse newest.old.kept) }
 {
     let mut rest = commit;
     while let Some((action, earlier)) = rest.split_last() {
@@ -123,7 +124,8 @@ fn decide_adds<T: Kept>(newest: &mut Newest<T>, commit: &[Action]) -> Result<(),
 
 // Decides the path of an add; other actions decide nothing here.
 fn decide_add<T: Kept>(newest: &mut Newest<T>, action: &Action) -> Result<(), AllocError>
-    ensures { OnOk result (newest.new.entries ≡ after_add T.kept newest.old.entries action.now) }
+    ensures { OnOk result (DecidesAdd T.kept newest.old.decided.keys newest.new.decided.keys
+        newest.old.kept newest.new.kept (added_of action.now)) }
 {
     match added(action) {
         Some(add) => decide_added(newest, add),
@@ -133,19 +135,21 @@ fn decide_add<T: Kept>(newest: &mut Newest<T>, action: &Action) -> Result<(), Al
 
 // The path of a file that is added, if no newer action has decided it; only then it is kept.
 fn decide_added<T: Kept>(newest: &mut Newest<T>, add: &AddAction) -> Result<(), AllocError>
-    ensures { OnOk result (newest.new.entries ≡ decided newest.old.entries add.now.path (Some (T.kept add.now))) }
+    ensures { OnOk result (Decides newest.old.decided.keys newest.new.decided.keys
+        newest.old.kept newest.new.kept add.now.path (Some (T.kept add.now))) }
 {
-    if !newest.contains_key(&add.path) {
-        let kept = T::keep(add)?;
-        newest.insert(add.path.clone()?, Some(kept))?;
+    if !newest.decided.contains(&add.path) {
+        newest.decided.insert(add.path.clone()?)?;
+        newest.kept.push(T::keep(add)?)?;
     }
     Ok(())
 }
 
 // The removes of a commit.
 fn decide_removes<T: Kept>(newest: &mut Newest<T>, commit: &[Action]) -> Result<(), AllocError>
-    ensures seen { OnOk result ((path : List ℕ) → is_decided newest.new.entries path ≡ (is_decided newest.old.entries path || removes commit.now path)) }
-    ensures live { OnOk result (live_among newest.new.entries ≡ live_among newest.old.entries) }
+    ensures seen { OnOk result ((path : List ℕ) → is_decided newest.new.decided.keys path
+        ≡ (is_decided newest.old.decided.keys path || removes commit.now path)) }
+    ensures live { OnOk result (newest.new.kept ≡ newest.old.kept) }
 {
     for action in commit {
         decide_remove(newest, action)?;
@@ -155,7 +159,8 @@ fn decide_removes<T: Kept>(newest: &mut Newest<T>, commit: &[Action]) -> Result<
 
 // Decides the path of a remove; other actions decide nothing here.
 fn decide_remove<T: Kept>(newest: &mut Newest<T>, action: &Action) -> Result<(), AllocError>
-    ensures { OnOk result (newest.new.entries ≡ after_remove newest.old.entries action.now) }
+    ensures { OnOk result (DecidesRemove newest.old.decided.keys newest.new.decided.keys
+        newest.old.kept newest.new.kept (removed_of action.now)) }
 {
     match removed(action) {
         Some(path) => decide_removed(newest, path),
@@ -165,10 +170,11 @@ fn decide_remove<T: Kept>(newest: &mut Newest<T>, action: &Action) -> Result<(),
 
 // A path that is removed, if no newer action has decided it.
 fn decide_removed<T: Kept>(newest: &mut Newest<T>, path: &Text) -> Result<(), AllocError>
-    ensures { OnOk result (newest.new.entries ≡ decided newest.old.entries path.now None) }
+    ensures { OnOk result (Decides newest.old.decided.keys newest.new.decided.keys
+        newest.old.kept newest.new.kept path.now None) }
 {
-    if !newest.contains_key(path) {
-        newest.insert(path.clone()?, None)?;
+    if !newest.decided.contains(path) {
+        newest.decided.insert(path.clone()?)?;
     }
     Ok(())
 }

@@ -26,7 +26,7 @@ use Rattle.delta_actions.specs.declared.action.MetadataAction.{MetadataAction}
 use Rattle.delta_actions.specs.declared.action.ProtocolAction.{ProtocolAction}
 use Rattle.delta_actions.specs.declared.action.Action.{Action}
 use Rattle.delta_actions.specs.declared.action.Action.TheVariants as action
-use Rattle.log_replay.specs.Deciding.{removes}
+use Rattle.log_replay.specs.Changes.{removes}
 use Rattle.log_replay.specs.Force.{in_force, metadata_in, protocol_in, mark_in_force, fallen}
 use Rattle.log_replay.specs.Live.{AreNumbered, live_adds, paths_of, is_add, is_of, numbered}
 use Rattle.log_replay.specs.Replay.{snapshot_of}
