@@ -3,7 +3,7 @@ use Rattle.std.specs.Prelude.{◌≡◌, ◌⊎◌, ℕ, ◌<◌, List, [], ◌�
 use Rattle.dm_store.specs.Causes.{Rose}
 use Rattle.dm_store.specs.Files.{Files, WhereTold, appended, IsAbsent, IsPresent}
 use Rattle.dm_types.specs.declared.refusal.Refused.TheVariants as refused
-use Rattle.dm_types.specs.declared.refusal.StatementRefusal.TheVariants as statement
+use Rattle.dm_types.specs.declared.refusal.PutRefusal.TheVariants as clash
 use Rattle.dm_types.specs.declared.refusal.Stop.{Stop}
 use Rattle.dm_types.specs.declared.refusal.Stop.TheVariants as stop
 use Rattle.delta_actions.specs.Meaning.{commit_of}
@@ -74,8 +74,8 @@ CommitTaken fault.Memory before now = now ≡ before
 
 -- the stop of a statement whose version wasn't added
 abbrev pub stop_of : CommitFault → Stop
-stop_of (fault.NameTaken path) = stop.Refused (refused.Statement (statement.NameTaken path))
-stop_of (fault.VersionTaken version) = stop.Refused (refused.Statement (statement.VersionTaken version))
+stop_of (fault.NameTaken path) = stop.Refused (refused.Put (clash.NameTaken path))
+stop_of (fault.VersionTaken version) = stop.Refused (refused.Put (clash.VersionTaken version))
 stop_of fault.Failed = stop.Store
 stop_of fault.Memory = stop.Memory
 

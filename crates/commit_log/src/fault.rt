@@ -1,12 +1,12 @@
 // Why a version isn't added.
 ghost use Rattle.std.specs.Prelude.{◌≡◌};
 
-use dm_types::{StatementRefusal, Stop, Text};
+use dm_types::{PutRefusal, Stop, Text};
 use std::alloc::AllocError;
 use thiserror::Error;
 
 /// Why a version wasn't added.
-#[derive(Debug, PartialEq, Eq, Drop, Error)]
+#[derive(Debug, Drop, Error)]
 pub enum CommitFault {
     /// A file has the path of a new one already. The new files before it are put.
     #[error("the path {} is taken", .path.as_str())]
@@ -45,10 +45,8 @@ impl From<CommitFault> for Stop {
 
     fn from(fault: CommitFault) -> Stop {
         match fault {
-            CommitFault::NameTaken { path } => StatementRefusal::NameTaken { path }.into(),
-            CommitFault::VersionTaken { version } => StatementRefusal::VersionTaken {
-                version,
-            }.into(),
+            CommitFault::NameTaken { path } => PutRefusal::NameTaken { path }.into(),
+            CommitFault::VersionTaken { version } => PutRefusal::VersionTaken { version }.into(),
             CommitFault::Failed => Stop::Store,
             CommitFault::Memory => Stop::Memory,
         }

@@ -35,6 +35,7 @@ vectors_done live rest so_far is = so_far ∙ rw is refl
 stops : {A B : Type 0} (first : Result A TableRefusal) (next : A → Result B TableRefusal) (why : Stop) → Gives first (Err why) → Gives (go first next) (Err why)
 stops first next (stop.Refused (refused.Table r)) gives = rw gives refl
 stops first next (stop.Refused (refused.Statement r)) gives = gives
+stops first next (stop.Refused (refused.Put r)) gives = gives
 stops first next stop.Store gives = gives
 stops first next stop.Names gives = gives
 stops first next stop.Memory gives = tt

@@ -20,6 +20,7 @@ stops : {A B : Type 0} (told : Option Files) (first : Files → Result A TableRe
 stops None first next (stop.Refused (refused.Table refusal)) here = tt
 stops (Some files) first next (stop.Refused (refused.Table refusal)) here = rw here refl
 stops told first next (stop.Refused (refused.Statement refusal)) here = here
+stops told first next (stop.Refused (refused.Put refusal)) here = here
 stops told first next stop.Store here = tt
 stops told first next stop.Names here = here
 stops told first next stop.Memory here = tt
@@ -32,6 +33,7 @@ follows None first next value (Err (stop.Refused (refused.Table refusal))) here 
 follows (Some files) first next value (Ok found) here gives = rw here gives
 follows (Some files) first next value (Err (stop.Refused (refused.Table refusal))) here gives = rw here gives
 follows told first next value (Err (stop.Refused (refused.Statement refusal))) here gives = gives
+follows told first next value (Err (stop.Refused (refused.Put refusal))) here gives = gives
 follows told first next value (Err stop.Store) here gives = tt
 follows told first next value (Err stop.Names) here gives = gives
 follows told first next value (Err stop.Memory) here gives = tt
@@ -53,6 +55,7 @@ open_stops told table why answer is here = subst (λ (r : Result Snapshot Stop).
 checked : (found : Snapshot) (why : Stop) → Gives (writable found) (Err why) → Gives (go (writable found) (λ _. Ok found)) (Err why)
 checked found (stop.Refused (refused.Table refusal)) gives = rw gives refl
 checked found (stop.Refused (refused.Statement refusal)) gives = gives
+checked found (stop.Refused (refused.Put refusal)) gives = gives
 checked found stop.Store gives = gives
 checked found stop.Names gives = gives
 checked found stop.Memory gives = tt

@@ -77,6 +77,7 @@ stops_told told table n newest commits stop.Memory within so_far here = tt
 stops_told None table n newest commits (stop.Refused (refused.Table r)) within so_far here = tt
 stops_told (Some files) table n newest commits (stop.Refused (refused.Table r)) within so_far here = stops_whole (log_of table files) n newest commits r within so_far here
 stops_told told table n newest commits (stop.Refused (refused.Statement r)) within so_far here = here
+stops_told told table n newest commits (stop.Refused (refused.Put r)) within so_far here = here
 
 pub reading_stops : (told before : Option Files) (table : List ℕ) (n newest : ℕ) (commits : List Commit) (e : Stop) (answer : Result (List Commit) Stop) → answer ≡ Err e → before ≡ told → n < newest + 1 → AreRead table n commits told
     → Tells before (λ files. commit_at (log_of table files) n) (Err e) → Tells told (λ files. commits_below (log_of table files) (newest + 1)) answer
@@ -106,6 +107,7 @@ refused_told same told asked table ns stop.Memory listed here = tt
 refused_told same None asked table ns (stop.Refused (refused.Table r)) listed here = tt
 refused_told same (Some files) asked table ns (stop.Refused (refused.Table r)) listed here = whole same asked (log_of table files) ns listed ∙ rw here refl
 refused_told same told asked table ns (stop.Refused (refused.Statement r)) listed here = here
+refused_told same told asked table ns (stop.Refused (refused.Put r)) listed here = here
 
 pub log_refused : MembersDecide → (told : Option Files) (asked : Option ℕ) (table ns : List ℕ) (e : Stop) (answer : Result (List Commit) Stop) → answer ≡ Err e → AreVersions table told ns → Gives (version_among asked ns) (Err e)
     → Tells told (λ files. commits_at asked (log_of table files)) answer
@@ -116,6 +118,7 @@ pub told_alike : {A : Type 0} (told : Option Files) (first second : Files → Re
 told_alike None first second (Ok value) same here = tt
 told_alike None first second (Err (stop.Refused (refused.Table r))) same here = tt
 told_alike told first second (Err (stop.Refused (refused.Statement r))) same here = here
+told_alike told first second (Err (stop.Refused (refused.Put r))) same here = here
 told_alike told first second (Err stop.Store) same here = tt
 told_alike told first second (Err stop.Names) same here = here
 told_alike told first second (Err stop.Memory) same here = tt

@@ -11,6 +11,7 @@ abbrev pub Tells : {A : Type 0} → Option Files → (Files → Result A TableRe
 Tells told meaning (Ok value) = WhereTold told (λ files. meaning files ≡ Ok value)
 Tells told meaning (Err (stop.Refused (refused.Table refusal))) = WhereTold told (λ files. meaning files ≡ Err refusal)
 Tells told meaning (Err (stop.Refused (refused.Statement refusal))) = ⊥
+Tells told meaning (Err (stop.Refused (refused.Put refusal))) = ⊥
 Tells told meaning (Err stop.Store) = ⊤
 Tells told meaning (Err stop.Names) = ⊥
 Tells told meaning (Err stop.Memory) = ⊤
@@ -20,6 +21,7 @@ abbrev pub Gives : {A : Type 0} → Result A TableRefusal → Result A Stop → 
 Gives known (Ok value) = known ≡ Ok value
 Gives known (Err (stop.Refused (refused.Table refusal))) = known ≡ Err refusal
 Gives known (Err (stop.Refused (refused.Statement refusal))) = ⊥
+Gives known (Err (stop.Refused (refused.Put refusal))) = ⊥
 Gives known (Err stop.Store) = ⊥
 Gives known (Err stop.Names) = ⊥
 Gives known (Err stop.Memory) = ⊤

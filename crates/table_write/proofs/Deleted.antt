@@ -10,8 +10,8 @@ use Rattle.std.proofs.lemmas.Slice.Eq.{bytes_eq-Decides}
 use Rattle.dm_store.specs.Files.{Files, WhereTold, IsPresent, appended, lookup}
 use Rattle.dm_types.specs.Then.{go, ◌>>=◌}
 use Rattle.dm_types.specs.declared.refusal.Refused.TheVariants as refused
-use Rattle.dm_types.specs.declared.refusal.StatementRefusal.{StatementRefusal}
-use Rattle.dm_types.specs.declared.refusal.StatementRefusal.TheVariants as statement
+use Rattle.dm_types.specs.declared.refusal.PutRefusal.{PutRefusal}
+use Rattle.dm_types.specs.declared.refusal.PutRefusal.TheVariants as clash
 use Rattle.dm_types.specs.declared.refusal.Stop.{Stop}
 use Rattle.dm_types.specs.declared.refusal.Stop.TheVariants as stop
 use Rattle.dm_types.specs.declared.refusal.TableRefusal.{TableRefusal}
@@ -42,7 +42,7 @@ use Rattle.commit_log.specs.Block.{files_of, block_of, commit_file}
 use Rattle.commit_log.specs.Commits.{AllPut, SomePut, ReadsBack}
 use Rattle.commit_log.specs.declared.new_files.NewFiles.{NewFiles}
 use Rattle.table_write.specs.Delete.{changeable, deletable, delete_actions, deletion, delete_from}
-use Rattle.table_write.specs.DeleteLaws.{DeletesAll, DeleteEmpties, LeavesFiles, DeleteStands}
+use Rattle.table_write.specs.Emptied.{DeletesAll, DeleteEmpties, LeavesFiles, DeleteStands}
 use Rattle.table_write.specs.Outside.{Outside}
 use Rattle.table_write.specs.Writing.{of_table, of_statement, IsCutOff, IsStarved, NameIsTaken, VersionIsTaken, version_line}
 
@@ -294,8 +294,8 @@ untouched table files old new is same = ap (λ (o : Outside). o.files) same ∙ 
 none_put : (files : Files) (told now : Option Files) (block : Files) → told ≡ Some files → block ≡ [] → now ≡ appended told block → now ≡ Some files
 none_put files told now block is none more = grown told files block now is more ∙ ap (λ (fs : Files). Some (files ++ fs)) none ∙ ap Some (append-nil files)
 
-leaves : (table : List ℕ) (files : Files) (why : Stop) (new : Outside) → new.files ≡ Some files → ((refusal : StatementRefusal) → why ≢ stop.Refused (refused.Statement refusal)) → LeavesFiles table files why new
-leaves table files why new same other = record { stands = inl same; no_name = λ path. other (statement.NameTaken path); no_version = λ version. other (statement.VersionTaken version) }
+leaves : (table : List ℕ) (files : Files) (why : Stop) (new : Outside) → new.files ≡ Some files → ((refusal : PutRefusal) → why ≢ stop.Refused (refused.Put refusal)) → LeavesFiles table files why new
+leaves table files why new same free = record { stands = inl same; free = free }
 
 take_none : (block : Files) (count : ℕ) → block ≡ [] → take count block ≡ []
 take_none block zero none = refl
@@ -331,7 +331,7 @@ store_leaves laws folder files old new is (inr cut) =
   where
     by : (new.files ≡ Some files) ⊎ ((fs : Files) × (new.files ≡ Some fs) × (text : List ℕ) × DeletesAll folder files fs text) → LeavesFiles folder files stop.Store new
     by (inl same) = leaves folder files stop.Store new same (λ refusal e. cc)
-    by (inr (fs, now, text, deletes)) = record { stands = inr (refl, fs, now, text, deletes); no_name = λ path e. cc; no_version = λ version e. cc }
+    by (inr (fs, now, text, deletes)) = record { stands = inr (refl, (fs, now, text, deletes)); free = λ refusal e. cc }
 
 memory_leaves : (folder : List ℕ) (files : Files) (old new : Outside) → old.files ≡ Some files → (new ≡ old) ⊎ IsStarved (delete_from folder) old new → LeavesFiles folder files stop.Memory new
 memory_leaves folder files old new is (inl same) = leaves folder files stop.Memory new (untouched folder files old new is same) (λ refusal e. cc)
@@ -362,12 +362,9 @@ never_overtaken absent laws folder files old version new is taken =
 
 pub stands : NextIsAbsent → Laws → DeleteStands
 stands absent laws folder old new files (stop.Refused (refused.Table refusal)) is (checked, same) = leaves folder files (stop.Refused (refused.Table refusal)) new (untouched folder files old new is same) (λ r e. cc)
-stands absent laws folder old new files (stop.Refused (refused.Statement statement.AppendOnly)) is (checked, same) =
-    record { stands = inl (untouched folder files old new is same); no_name = λ path e. cc; no_version = λ version e. cc }
-stands absent laws folder old new files (stop.Refused (refused.Statement statement.RowTrackingOff)) is (checked, same) =
-    record { stands = inl (untouched folder files old new is same); no_name = λ path e. cc; no_version = λ version e. cc }
-stands absent laws folder old new files (stop.Refused (refused.Statement (statement.NameTaken path))) is taken = absurd (never_named folder old path new taken)
-stands absent laws folder old new files (stop.Refused (refused.Statement (statement.VersionTaken version))) is taken = absurd (never_overtaken absent laws folder files old version new is taken)
+stands absent laws folder old new files (stop.Refused (refused.Statement refusal)) is (checked, same) = leaves folder files (stop.Refused (refused.Statement refusal)) new (untouched folder files old new is same) (λ r e. cc)
+stands absent laws folder old new files (stop.Refused (refused.Put (clash.NameTaken path))) is taken = absurd (never_named folder old path new taken)
+stands absent laws folder old new files (stop.Refused (refused.Put (clash.VersionTaken version))) is taken = absurd (never_overtaken absent laws folder files old version new is taken)
 stands absent laws folder old new files stop.Store is left = store_leaves laws folder files old new is left
 stands absent laws folder old new files stop.Names is unnamed = leaves folder files stop.Names new (ap (λ (o : Outside). o.files) unnamed.others ∙ is) (λ refusal e. cc)
 stands absent laws folder old new files stop.Memory is left = memory_leaves folder files old new is left

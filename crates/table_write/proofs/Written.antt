@@ -1,10 +1,10 @@
 -- What a write statement leaves, step by step.
-use Rattle.std.proofs.Common.{◌≡◌, ◌⊎◌, ℕ, ℤ, List, [], Option, Some, None, Result, Ok, Err, inl, inr, refl, ap, sym, subst, append-nil, codes, cond, Bool, true, false}
+use Rattle.std.proofs.Common.{◌≡◌, ℕ, ℤ, List, [], Option, Some, None, Result, Ok, Err, inl, inr, refl, ap, sym, subst, append-nil}
 use Rattle.dm_store.specs.Files.{Files, WhereTold}
 use Rattle.dm_store.specs.Given.{Gave}
 use Rattle.dm_types.specs.declared.refusal.Refused.TheVariants as refused
 use Rattle.dm_types.specs.declared.refusal.StatementRefusal.{StatementRefusal}
-use Rattle.dm_types.specs.declared.refusal.StatementRefusal.TheVariants as statement
+use Rattle.dm_types.specs.declared.refusal.PutRefusal.TheVariants as clash
 use Rattle.dm_types.specs.declared.refusal.Stop.{Stop}
 use Rattle.dm_types.specs.declared.refusal.Stop.TheVariants as stop
 use Rattle.log_replay.specs.declared.snapshot.Snapshot.{Snapshot}
@@ -18,14 +18,14 @@ use Rattle.commit_log.specs.declared.new_files.NewFiles.{NewFiles}
 use Rattle.table_load.specs.Opened.{opened_to_write}
 use Rattle.table_load.specs.Tells.{Tells}
 use Rattle.table_log.specs.Log.{log_of}
-use Rattle.table_load.specs.Properties.{is_on, tracks_rows}
 use Rattle.table_write.specs.Delete.{changeable, deletable, deletion, delete_from}
-use Rattle.table_write.specs.Outside.{Outside}
-use Rattle.table_write.specs.Writing.{Write, Checks, DrawsName, IsMade, PutsVersion, Writes}
+use Rattle.table_write.specs.Outside.{outside}
+use Rattle.table_write.specs.StepsWriting.{TellsPlan, DrawsName, PutsVersion}
+use Rattle.table_write.specs.Writing.{Write, IsMade, CarriesOut}
 
 -- ---- the checks of DELETE
 
-deletable_refused : (told : Option Files) (table : List ℕ) (why : Stop) → Tells told (λ files. opened_to_write (log_of table files)) (Err why) → Checks told (deletable table) (Err why)
+deletable_refused : (told : Option Files) (table : List ℕ) (why : Stop) → Tells told (λ files. opened_to_write (log_of table files)) (Err why) → TellsPlan told (deletable table) (Err why)
 unfolding deletable
 deletable_refused told table stop.Store loaded = tt
 deletable_refused told table stop.Names loaded = loaded
@@ -33,32 +33,20 @@ deletable_refused told table stop.Memory loaded = tt
 deletable_refused None table (stop.Refused (refused.Table refusal)) loaded = tt
 deletable_refused (Some files) table (stop.Refused (refused.Table refusal)) loaded = rw loaded refl
 deletable_refused told table (stop.Refused (refused.Statement refusal)) loaded = absurd loaded
+deletable_refused told table (stop.Refused (refused.Put refusal)) loaded = absurd loaded
 
-pub not_loaded : (told : Option Files) (table : List ℕ) (why : Stop) (answer : Result Snapshot Stop) → answer ≡ Err why → Tells told (λ files. opened_to_write (log_of table files)) (Err why) → Checks told (deletable table) answer
-not_loaded told table why answer is loaded = subst (λ (r : Result Snapshot Stop). Checks told (deletable table) r) (sym is) (deletable_refused told table why loaded)
+pub not_loaded : (told : Option Files) (table : List ℕ) (why : Stop) (answer : Result Snapshot Stop) → answer ≡ Err why → Tells told (λ files. opened_to_write (log_of table files)) (Err why) → TellsPlan told (deletable table) answer
+not_loaded told table why answer is loaded = subst (λ (r : Result Snapshot Stop). TellsPlan told (deletable table) r) (sym is) (deletable_refused told table why loaded)
 
--- the two refusals of a table whose rows can't be deleted
-of_two : (append tracks : Bool) (why : StatementRefusal) → ◌≡◌ {A = Result (Unit {0}) StatementRefusal} (cond append (Err statement.AppendOnly) (cond tracks (Ok tt) (Err statement.RowTrackingOff))) (Err why) → (why ≡ statement.AppendOnly) ⊎ (why ≡ statement.RowTrackingOff)
-of_two true tracks why e = inl cc
-of_two false true why e = inl cc
-of_two false false why e = inr cc
-
-refused_so : (told : Option Files) (table : List ℕ) (found : Snapshot) (why : StatementRefusal) → WhereTold told (λ files. opened_to_write (log_of table files) ≡ Ok found) → changeable found ≡ Err why → WhereTold told (λ files. deletable table files ≡ Err (refused.Statement why))
+changeable_refused : (told : Option Files) (table : List ℕ) (found : Snapshot) (why : StatementRefusal) → WhereTold told (λ files. opened_to_write (log_of table files) ≡ Ok found) → changeable found ≡ Err why → TellsPlan told (deletable table) (Err (stop.Refused (refused.Statement why)))
 unfolding deletable
-refused_so None table found why loaded is = tt
-refused_so (Some files) table found why loaded is = rw (loaded, is) refl
-
-changeable_refused : (told : Option Files) (table : List ℕ) (found : Snapshot) (why : StatementRefusal) → (why ≡ statement.AppendOnly) ⊎ (why ≡ statement.RowTrackingOff) → WhereTold told (λ files. opened_to_write (log_of table files) ≡ Ok found)
-    → changeable found ≡ Err why → Checks told (deletable table) (Err (stop.Refused (refused.Statement why)))
-changeable_refused told table found why (inl append) loaded is =
-    subst (λ (r : StatementRefusal). Checks told (deletable table) (Err (stop.Refused (refused.Statement r)))) (sym append) (refused_so told table found statement.AppendOnly loaded (subst (λ (r : StatementRefusal). changeable found ≡ Err r) append is))
-changeable_refused told table found why (inr tracks) loaded is =
-    subst (λ (r : StatementRefusal). Checks told (deletable table) (Err (stop.Refused (refused.Statement r)))) (sym tracks) (refused_so told table found statement.RowTrackingOff loaded (subst (λ (r : StatementRefusal). changeable found ≡ Err r) tracks is))
+changeable_refused None table found why loaded is = tt
+changeable_refused (Some files) table found why loaded is = rw (loaded, is) refl
 
 pub not_changeable : (told : Option Files) (table : List ℕ) (found : Snapshot) (why : StatementRefusal) (answer : Result Snapshot Stop) → answer ≡ Err (stop.Refused (refused.Statement why)) → WhereTold told (λ files. opened_to_write (log_of table files) ≡ Ok found)
-    → changeable found ≡ Err why → Checks told (deletable table) answer
+    → changeable found ≡ Err why → TellsPlan told (deletable table) answer
 not_changeable told table found why answer ends loaded is =
-    subst (λ (r : Result Snapshot Stop). Checks told (deletable table) r) (sym ends) (changeable_refused told table found why (of_two (is_on found (codes "delta.appendOnly")) (tracks_rows found) why is) loaded is)
+    subst (λ (r : Result Snapshot Stop). TellsPlan told (deletable table) r) (sym ends) (changeable_refused told table found why loaded is)
 
 pub is_deletable : (told : Option Files) (table : List ℕ) (found : Snapshot) → WhereTold told (λ files. opened_to_write (log_of table files) ≡ Ok found) → changeable found ≡ Ok tt → WhereTold told (λ files. deletable table files ≡ Ok found)
 unfolding deletable
@@ -86,27 +74,22 @@ not_committed fresh old new before now why end answer is of puts built taken =
 
 -- ---- the whole statement
 
-abbrev outside : Option Files → ℕ → Option (List (List ℕ)) → Option (List ℤ) → Outside
-outside files taken names times = record { files = files; taken = taken; names = names; times = times }
-
 -- the files, the names and the times are those before, so nothing is touched
-untouched : (w : Write) (told : Option Files) (taken : ℕ) (names : Option (List (List ℕ))) (times : Option (List ℤ)) (why : Stop) → Checks told w.checks (Err why) → Writes w (outside told taken names times) (Err why) (outside told taken names times)
+untouched : (w : Write) (told : Option Files) (taken : ℕ) (names : Option (List (List ℕ))) (times : Option (List ℤ)) (why : Stop) → TellsPlan told w.checks (Err why) → CarriesOut w (outside told taken names times) (Err why) (outside told taken names times)
 untouched w told taken names times (stop.Refused (refused.Table refusal)) checked = (checked, refl)
-untouched w told taken names times (stop.Refused (refused.Statement statement.AppendOnly)) checked = (checked, refl)
-untouched w told taken names times (stop.Refused (refused.Statement statement.RowTrackingOff)) checked = (checked, refl)
-untouched w told taken names times (stop.Refused (refused.Statement (statement.NameTaken path))) checked = absurd checked
-untouched w told taken names times (stop.Refused (refused.Statement (statement.VersionTaken version))) checked = absurd checked
+untouched w told taken names times (stop.Refused (refused.Statement refusal)) checked = (checked, refl)
+untouched w told taken names times (stop.Refused (refused.Put refusal)) checked = absurd checked
 untouched w told taken names times stop.Store checked = inl refl
 untouched w told taken names times stop.Names checked = absurd checked
 untouched w told taken names times stop.Memory checked = inl refl
 
 -- the checks refused, or came to no end
-pub unchecked : (w : Write) (told files : Option Files) (taken paths : ℕ) (names : Option (List (List ℕ))) (times : Option (List ℤ)) (why : Stop) (answer : Result (List ℕ) Stop) → answer ≡ Err why → files ≡ told → paths ≡ taken → Checks told w.checks (Err why)
-    → Writes w (outside told taken names times) answer (outside files paths names times)
+pub unchecked : (w : Write) (told files : Option Files) (taken paths : ℕ) (names : Option (List (List ℕ))) (times : Option (List ℤ)) (why : Stop) (answer : Result (List ℕ) Stop) → answer ≡ Err why → files ≡ told → paths ≡ taken → TellsPlan told w.checks (Err why)
+    → CarriesOut w (outside told taken names times) answer (outside files paths names times)
 unchecked w told files taken paths names times why answer is kept same checked = rw (is, kept, same) (untouched w told taken names times why checked)
 
 unnamed : (w : Write) (plan : w.Plan) (told : Option Files) (taken : ℕ) (names names_new : Option (List (List ℕ))) (times : Option (List ℤ)) (why : Stop) → WhereTold told (λ files. w.checks files ≡ Ok plan) → DrawsName names names_new (Err why)
-    → Writes w (outside told taken names times) (Err why) (outside told taken names_new times)
+    → CarriesOut w (outside told taken names times) (Err why) (outside told taken names_new times)
 unnamed w plan told taken names names_new times (stop.Refused refusal) passed drawn = absurd drawn
 unnamed w plan told taken names names_new times stop.Store passed drawn = absurd drawn
 unnamed w plan told taken names names_new times stop.Names passed drawn = record { plan = plan; passed = passed; names = drawn; others = refl }
@@ -114,7 +97,7 @@ unnamed w plan told taken names names_new times stop.Memory passed drawn = absur
 
 -- the draw failed
 pub undrawn : (w : Write) (plan : w.Plan) (told : Option Files) (taken : ℕ) (names names_new : Option (List (List ℕ))) (times : Option (List ℤ)) (why : Stop) (answer : Result (List ℕ) Stop) → answer ≡ Err why
-    → WhereTold told (λ files. w.checks files ≡ Ok plan) → DrawsName names names_new (Err why) → Writes w (outside told taken names times) answer (outside told taken names_new times)
+    → WhereTold told (λ files. w.checks files ≡ Ok plan) → DrawsName names names_new (Err why) → CarriesOut w (outside told taken names times) answer (outside told taken names_new times)
 undrawn w plan told taken names names_new times why answer is passed drawn = rw is (unnamed w plan told taken names names_new times why passed drawn)
 
 -- what is made of the plan, the name and the time
@@ -132,19 +115,18 @@ made_of w told files taken paths names names_new times times_new fresh m = recor
 
 -- there was no memory for what is made
 pub unmade : (w : Write) (told files : Option Files) (taken paths : ℕ) (names names_new : Option (List (List ℕ))) (times times_new : Option (List ℤ)) (fresh : NewFiles) (answer : Result (List ℕ) Stop) → answer ≡ Err stop.Memory → files ≡ told → paths ≡ taken
-    → HasMade w told names names_new times times_new fresh → Writes w (outside told taken names times) answer (outside files paths names_new times_new)
+    → HasMade w told names names_new times times_new fresh → CarriesOut w (outside told taken names times) answer (outside files paths names_new times_new)
 unmade w told files taken paths names names_new times times_new fresh answer is kept same m =
     rw (is, kept, same) (inr (record { fresh = fresh; made = made_of w told told taken taken names names_new times times_new fresh m; put = record { count = 0; put = nothing_put told }; taken = refl }))
 
 put_so : (w : Write) (told files : Option Files) (taken paths : ℕ) (names names_new : Option (List (List ℕ))) (times times_new : Option (List ℤ)) (fresh : NewFiles) (answer : Result (List ℕ) Stop) → HasMade w told names names_new times times_new fresh → PutsVersion fresh told files taken paths answer
-    → Writes w (outside told taken names times) answer (outside files paths names_new times_new)
+    → CarriesOut w (outside told taken names times) answer (outside files paths names_new times_new)
 put_so w told files taken paths names names_new times times_new fresh (Ok text) m (put, same, built, line) = record { fresh = fresh; built = built; made = made_of w told files taken paths names names_new times times_new fresh m; put = put; taken = same; line = line }
 put_so w told files taken paths names names_new times times_new fresh (Err (stop.Refused (refused.Table refusal))) m puts = absurd puts
-put_so w told files taken paths names names_new times times_new fresh (Err (stop.Refused (refused.Statement statement.AppendOnly))) m puts = absurd puts
-put_so w told files taken paths names names_new times times_new fresh (Err (stop.Refused (refused.Statement statement.RowTrackingOff))) m puts = absurd puts
-put_so w told files taken paths names names_new times times_new fresh (Err (stop.Refused (refused.Statement (statement.NameTaken path)))) m (index, first, is, rose) =
+put_so w told files taken paths names names_new times times_new fresh (Err (stop.Refused (refused.Statement refusal))) m puts = absurd puts
+put_so w told files taken paths names names_new times times_new fresh (Err (stop.Refused (refused.Put (clash.NameTaken path)))) m (index, first, is, rose) =
     record { fresh = fresh; made = made_of w told files taken paths names names_new times times_new fresh m; index = index; first = first; path_is = is; taken = rose }
-put_so w told files taken paths names names_new times times_new fresh (Err (stop.Refused (refused.Statement (statement.VersionTaken version)))) m (overtaken, is, rose) =
+put_so w told files taken paths names names_new times times_new fresh (Err (stop.Refused (refused.Put (clash.VersionTaken version)))) m (overtaken, is, rose) =
     record { fresh = fresh; made = made_of w told files taken paths names names_new times times_new fresh m; overtaken = overtaken; version_is = is; taken = rose }
 put_so w told files taken paths names names_new times times_new fresh (Err stop.Store) m (some, same, built) = inr (record { fresh = fresh; built = built; made = made_of w told files taken paths names names_new times times_new fresh m; put = some; taken = same })
 put_so w told files taken paths names names_new times times_new fresh (Err stop.Names) m puts = absurd puts
@@ -152,7 +134,7 @@ put_so w told files taken paths names names_new times times_new fresh (Err stop.
 
 -- the new version was put, or its puts ended
 pub ends_putting : (w : Write) (told before files : Option Files) (taken between paths : ℕ) (names names_new : Option (List (List ℕ))) (times times_new : Option (List ℤ)) (fresh : NewFiles) (answer : Result (List ℕ) Stop) → before ≡ told → between ≡ taken
-    → HasMade w told names names_new times times_new fresh → PutsVersion fresh before files between paths answer → Writes w (outside told taken names times) answer (outside files paths names_new times_new)
+    → HasMade w told names names_new times times_new fresh → PutsVersion fresh before files between paths answer → CarriesOut w (outside told taken names times) answer (outside files paths names_new times_new)
 ends_putting w told before files taken between paths names names_new times times_new fresh answer kept same m puts =
     put_so w told files taken paths names names_new times times_new fresh answer m (subst (λ (o : Option Files). PutsVersion fresh o files taken paths answer) kept (subst (λ (n : ℕ). PutsVersion fresh before files n paths answer) same puts))
 

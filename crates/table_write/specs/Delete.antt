@@ -24,16 +24,23 @@ changeable table =
 
 -- the table's newest state, if its rows may be deleted, or the first refusal
 unfoldable pub deletable : List ℕ → Files → Result Snapshot Refused
-deletable table files = go (of_table (opened_to_write (log_of table files))) (λ found. go (of_statement (changeable found)) (λ _. Ok found))
+deletable table files =
+    go (of_table (opened_to_write (log_of table files))) (λ found. go (of_statement (changeable found)) (λ _. Ok found))
 
 -- where the commit comes from, and then a remove for each live file in log order
 abbrev pub delete_actions : Snapshot → ℤ → List Action
-delete_actions table time = action.Info (record { operation = codes "DELETE"; timestamp = time }) ∷ map (λ add. action.Remove (removal_of time add)) table.live
+delete_actions table time =
+    action.Info (record { operation = codes "DELETE"; timestamp = time }) ∷ map (λ add. action.Remove (removal_of time add)) table.live
 
 -- the new version: its commit file alone
 abbrev pub deletion : List ℕ → Snapshot → ℤ → NewFiles
-deletion folder table time = record { version = table.version + 1; table = folder; files = []; actions = delete_actions table time }
+deletion folder table time =
+    record { version = table.version + 1; table = folder; files = []; actions = delete_actions table time }
 
 -- DELETE FROM a table; it writes no data file, so no path is made of the drawn name
 abbrev pub delete_from : List ℕ → Write
-delete_from folder = record { Plan = Snapshot; checks = deletable folder; Makes = λ table name time fresh. fresh ≡ deletion folder table time }
+delete_from folder = record {
+  Plan = Snapshot;
+  checks = deletable folder;
+  Makes = λ table name time fresh. fresh ≡ deletion folder table time;
+}

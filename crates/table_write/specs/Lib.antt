@@ -1,4 +1,5 @@
 pub mod Outside
 pub mod Writing
+pub mod StepsWriting
 pub mod Delete
-pub mod DeleteLaws
+pub mod Emptied

@@ -11,3 +11,7 @@ pub record Outside : Type 0 where
   pub names : Option (List (List ℕ))
   -- the times that the clock gave, where it tells them
   pub times : Option (List ℤ)
+
+-- these files, so many paths that were found taken, these names and these times
+abbrev pub outside : Option Files → ℕ → Option (List (List ℕ)) → Option (List ℤ) → Outside
+outside files taken names times = record { files = files; taken = taken; names = names; times = times }

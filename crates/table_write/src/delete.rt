@@ -5,8 +5,9 @@ ghost use Rattle.dm_store.specs.Files.{WhereTold};
 ghost use Rattle.delta_actions.specs.Removal.{removal_of};
 ghost use Rattle.delta_actions.specs.declared.action.Action.TheVariants as action;
 ghost use Rattle.table_write.specs.Delete as spec;
-ghost use Rattle.table_write.specs.Outside.{Outside};
-ghost use Rattle.table_write.specs.Writing.{Writes, Checks};
+ghost use Rattle.table_write.specs.Outside.{outside};
+ghost use Rattle.table_write.specs.StepsWriting.{TellsPlan};
+ghost use Rattle.table_write.specs.Writing.{CarriesOut};
 
 use crate::writing::{draw, put_version};
 use commit_log::NewFiles;
@@ -27,9 +28,10 @@ pub fn delete_from<S: Store, C: Clock, N: NameSource>(
     names: &mut N,
     table: &Text,
 ) -> Result<Bytes, Stop>
-    ensures answer { let old : Outside = record { files = S.files store.old; taken = S.taken store.old; names = N.given names.old; times = C.given clock.old } in
-        let new : Outside = record { files = S.files store.new; taken = S.taken store.new; names = N.given names.new; times = C.given clock.new } in
-        Writes (spec.delete_from table.now) old result new }
+    ensures answer { CarriesOut (spec.delete_from table.now)
+        (outside (S.files store.old) (S.taken store.old) (N.given names.old) (C.given clock.old))
+        result
+        (outside (S.files store.new) (S.taken store.new) (N.given names.new) (C.given clock.new)) }
     ensures cause { Counts StopCause (S.faults store.old) (S.faults store.new) result }
     ensures draws { Counts DrawCause (N.faults names.old) (N.faults names.new) result }
 {
@@ -47,9 +49,11 @@ fn write_deletion<S: Store, C: Clock, N: NameSource>(
     table: &Snapshot,
 ) -> Result<Bytes, Stop>
     requires { table.now.version + 1 < 2 ^ 63 }
-    ensures answer { let old : Outside = record { files = S.files store.old; taken = S.taken store.old; names = N.given names.old; times = C.given clock.old } in
-        let new : Outside = record { files = S.files store.new; taken = S.taken store.new; names = N.given names.new; times = C.given clock.new } in
-        WhereTold (S.files store.old) (λ files. spec.deletable folder.now files ≡ Ok table.now) → Writes (spec.delete_from folder.now) old result new }
+    ensures answer { WhereTold (S.files store.old) (λ files. spec.deletable folder.now files ≡ Ok table.now)
+        → CarriesOut (spec.delete_from folder.now)
+        (outside (S.files store.old) (S.taken store.old) (N.given names.old) (C.given clock.old))
+        result
+        (outside (S.files store.new) (S.taken store.new) (N.given names.new) (C.given clock.new)) }
     ensures cause { Counts StopCause (S.faults store.old) (S.faults store.new) result }
     ensures draws { Counts DrawCause (N.faults names.old) (N.faults names.new) result }
 {
@@ -61,7 +65,7 @@ fn write_deletion<S: Store, C: Clock, N: NameSource>(
 
 // The table's newest state, if its rows may be deleted.
 fn load_deletable<S: Store>(alloc: Global, store: &mut S, table: &Text) -> Result<Snapshot, Stop>
-    ensures found { Checks (S.files store.old) (spec.deletable table.now) result }
+    ensures found { TellsPlan (S.files store.old) (spec.deletable table.now) result }
     ensures room { IfOk result (λ found. found.version + 1 < 2 ^ 63) }
     ensures kept { S.files store.new ≡ S.files store.old }
     ensures cause { Counts StopCause (S.faults store.old) (S.faults store.new) result }
@@ -122,7 +126,8 @@ fn push_removes(
     live: &[AddAction],
     time: i64,
 ) -> Result<(), AllocError>
-    ensures { OnOk result (actions.new ≡ actions.old ++ map (λ add. action.Remove (removal_of time add)) live.now) }
+    ensures { OnOk result
+        (actions.new ≡ actions.old ++ map (λ add. action.Remove (removal_of time add)) live.now) }
 {
     for add in live {
         actions.push(Action::Remove(remove_file(alloc, add, time)?))?;

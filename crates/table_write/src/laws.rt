@@ -1,5 +1,5 @@
 // What DELETE leaves.
-ghost use Rattle.table_write.specs.DeleteLaws.{DeleteEmpties, DeleteStands};
+ghost use Rattle.table_write.specs.Emptied.{DeleteEmpties, DeleteStands};
 
 use delta_actions::good_forms;
 use log_replay::{forms_of_live, live_after_commit, removal_of_all};

@@ -2,6 +2,7 @@
 ghost use Rattle.std.specs.Prelude.{◌≡◌, IfOk};
 ghost use Rattle.commit_log.specs.Block.{AreApart};
 ghost use Rattle.dm_store.specs.Causes.{Counts, StopCause, DrawCause};
+ghost use Rattle.table_write.specs.StepsWriting as steps;
 ghost use Rattle.table_write.specs.Writing as spec;
 
 use commit_log::{NewFiles, commit};
@@ -11,7 +12,7 @@ use std::alloc::{AllocError, Global};
 
 /// The one draw of a write statement, whose checks have passed. It then reads the clock once.
 pub(crate) fn draw<N: NameSource>(names: &mut N) -> Result<[u8; 16], Stop>
-    ensures given { spec.DrawsName (N.given names.old) (N.given names.new) result }
+    ensures given { steps.DrawsName (N.given names.old) (N.given names.new) result }
     ensures draws { Counts DrawCause (N.faults names.old) (N.faults names.new) result }
 {
     match names.draw() {
@@ -27,7 +28,8 @@ pub(crate) fn put_version<S: Store>(
     fresh: &NewFiles,
 ) -> Result<Bytes, Stop>
     requires { AreApart fresh.now }
-    ensures puts { spec.PutsVersion fresh.now (S.files store.old) (S.files store.new) (S.taken store.old) (S.taken store.new) result }
+    ensures puts { steps.PutsVersion fresh.now (S.files store.old) (S.files store.new)
+        (S.taken store.old) (S.taken store.new) result }
     ensures cause { Counts StopCause (S.faults store.old) (S.faults store.new) result }
 {
     let text = version_line(alloc, fresh.version)?;

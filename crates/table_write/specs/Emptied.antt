@@ -2,7 +2,7 @@
 use Rattle.std.specs.Prelude.{◌≡◌, ◌≢◌, ◌⊎◌, ℕ, ◌+◌, List, [], ◌∷◌, ◌++◌, Some, Ok, Err}
 use Rattle.dm_store.specs.Files.{Files}
 use Rattle.dm_types.specs.declared.refusal.Refused.TheVariants as refused
-use Rattle.dm_types.specs.declared.refusal.StatementRefusal.TheVariants as statement
+use Rattle.dm_types.specs.declared.refusal.PutRefusal.{PutRefusal}
 use Rattle.dm_types.specs.declared.refusal.Stop.{Stop}
 use Rattle.dm_types.specs.declared.refusal.Stop.TheVariants as stop
 use Rattle.delta_actions.specs.declared.action.Action.{Action}
@@ -13,7 +13,7 @@ use Rattle.table_log.specs.Log.{log_of}
 use Rattle.table_log.specs.Versions.{newest_version}
 use Rattle.table_write.specs.Delete.{delete_from}
 use Rattle.table_write.specs.Outside.{Outside}
-use Rattle.table_write.specs.Writing.{Accepts, Writes, version_line}
+use Rattle.table_write.specs.Writing.{Accepts, CarriesOut, version_line}
 
 -- the files have one more version of the table, in which no file is live; its commits are those of the version before it
 -- and one more; every other version of this table and of the others says what it said
@@ -30,15 +30,19 @@ pub record DeletesAll (table : List ℕ) (files now : Files) (text : List ℕ) :
 
 -- an accepted DELETE empties the table, in one new version
 abbrev pub DeleteEmpties : Type 0
-DeleteEmpties = (table text : List ℕ) (old new : Outside) (files : Files) → old.files ≡ Some files → Accepts (delete_from table) old text new
-    → (now : Files) × (new.files ≡ Some now) × DeletesAll table files now text
+DeleteEmpties = (table text : List ℕ) (old new : Outside) (files : Files) → old.files ≡ Some files
+    → Accepts (delete_from table) old text new → (now : Files) × (new.files ≡ Some now) × DeletesAll table files now text
 
--- a DELETE that isn't accepted leaves the files as they were, unless a put failed: then they may hold the new version whole;
--- and it never finds its version taken
+-- the files hold the new version whole
+abbrev pub IsWhole : List ℕ → Files → Outside → Type 0
+IsWhole table files new = (now : Files) × (new.files ≡ Some now) × (text : List ℕ) × DeletesAll table files now text
+
+-- a DELETE that isn't accepted leaves the files as they were, unless a put failed: then they may hold the new version
+-- whole; and it finds no path taken
 pub record LeavesFiles (table : List ℕ) (files : Files) (why : Stop) (new : Outside) : Type 0 where
-  pub stands : (new.files ≡ Some files) ⊎ ((why ≡ stop.Store) × (now : Files) × (new.files ≡ Some now) × (text : List ℕ) × DeletesAll table files now text)
-  pub no_name : (path : List ℕ) → why ≢ stop.Refused (refused.Statement (statement.NameTaken path))
-  pub no_version : (version : ℕ) → why ≢ stop.Refused (refused.Statement (statement.VersionTaken version))
+  pub stands : (new.files ≡ Some files) ⊎ ((why ≡ stop.Store) × IsWhole table files new)
+  pub free : (refusal : PutRefusal) → why ≢ stop.Refused (refused.Put refusal)
 
 abbrev pub DeleteStands : Type 0
-DeleteStands = (table : List ℕ) (old new : Outside) (files : Files) (why : Stop) → old.files ≡ Some files → Writes (delete_from table) old (Err why) new → LeavesFiles table files why new
+DeleteStands = (table : List ℕ) (old new : Outside) (files : Files) (why : Stop) → old.files ≡ Some files
+    → CarriesOut (delete_from table) old (Err why) new → LeavesFiles table files why new
