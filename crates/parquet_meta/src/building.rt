@@ -6,6 +6,7 @@ ghost use Rattle.thrift_compact.specs.declared.tree.Node.TheVariants as n;
 ghost use Rattle.std.specs.List.{AllByRecursion};
 ghost use Rattle.parquet_meta.specs.Written.{entry, nodes as nodes_content};
 
+use crate::shared::SharedBytes;
 use dm_types::Bytes;
 use sqlite_items::Items;
 use std::alloc::{AllocError, Global};
@@ -97,6 +98,22 @@ pub(crate) fn put_list<T: Written>(
 }
 
 impl Written for Bytes {
+    ghost width = { 0 };
+
+    ghost written = { n.Binary };
+
+    ghost fits = { λ _. Unit {0} };
+
+    fn width() -> u8 {
+        0
+    }
+
+    fn write(&self, alloc: Global) -> Result<Node, AllocError> {
+        Ok(Node::Binary(Items::from_slice(alloc, self.as_slice())?))
+    }
+}
+
+impl Written for SharedBytes {
     ghost width = { 0 };
 
     ghost written = { n.Binary };

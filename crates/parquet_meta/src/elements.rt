@@ -6,17 +6,17 @@ ghost use Rattle.parquet_meta.specs.Elements.{element_of};
 use crate::fault::MetaFault;
 use crate::forms::{Form, needed, optional, struct_in};
 use crate::metadata::{Annotation, Logical};
-use dm_types::Bytes;
+use crate::shared::SharedBytes;
 use std::alloc::Global;
 use thrift_compact::{Node, Tree};
 
 /// An element of the schema (parquet.thrift, `SchemaElement`): the root, a group or a leaf.
-#[derive(Debug, Drop)]
+#[derive(Drop)]
 pub(crate) struct Element {
     pub(crate) physical: Option<i32>,
     pub(crate) length: Option<i32>,
     pub(crate) repetition: Option<i32>,
-    pub(crate) name: Bytes,
+    pub(crate) name: SharedBytes,
     pub(crate) children: Option<i32>,
     pub(crate) field_id: Option<i32>,
     pub(crate) annotation: Annotation,

@@ -3,7 +3,7 @@ use std::alloc::AllocError;
 use thiserror::Error;
 
 /// Why a footer or a page header isn't read.
-#[derive(Clone, Copy, Debug, PartialEq, Eq, Error)]
+#[derive(Debug, Drop, Error)]
 pub enum MetaFault {
     /// The bytes aren't one footer, or none of their prefixes is a page header.
     #[error("no Parquet metadata")]
@@ -13,11 +13,6 @@ pub enum MetaFault {
     Memory,
 }
 
-/// There was no memory.
-#[derive(Clone, Copy, Debug, PartialEq, Eq, Error)]
-#[error("no memory for the bytes of Parquet metadata")]
-pub struct Memory;
-
 impl From<AllocError> for MetaFault {
     ghost use Rattle.std.specs.Prelude.{◌≡◌};
     ghost use Rattle.parquet_meta.specs.declared.fault.MetaFault.TheVariants.{Memory};
@@ -26,11 +21,5 @@ impl From<AllocError> for MetaFault {
 
     fn from(_: AllocError) -> MetaFault {
         MetaFault::Memory
-    }
-}
-
-impl From<AllocError> for Memory {
-    fn from(_: AllocError) -> Memory {
-        Memory
     }
 }

@@ -7,6 +7,7 @@ ghost use Rattle.std.specs.Option.{option_copied};
 ghost use Rattle.std.specs.List.{list_all};
 
 use crate::fault::MetaFault;
+use crate::shared::SharedBytes;
 use dm_types::{Bytes, Items};
 use std::alloc::Global;
 use thrift_compact::{Field, Node, Tree};
@@ -20,7 +21,7 @@ pub(crate) trait Form: Drop {
 }
 
 /// What a field has to be that isn't kept.
-#[derive(Clone, Copy, Debug)]
+#[derive(Clone, Copy)]
 pub(crate) enum Shape {
     /// A whole number of 32 bits.
     I32,
@@ -193,6 +194,20 @@ impl Form for Bytes {
     fn read(alloc: Global, _width: u8, node: &Node) -> Result<Bytes, MetaFault> {
         match node {
             Node::Binary(bytes) => Ok(Items::from_slice(alloc, bytes.as_slice())?),
+            _ => Err(MetaFault::BadFooter),
+        }
+    }
+}
+
+impl Form for SharedBytes {
+    ghost form = { binary_of };
+
+    fn read(alloc: Global, _width: u8, node: &Node) -> Result<SharedBytes, MetaFault> {
+        match node {
+            Node::Binary(bytes) => {
+                let bytes = Items::from_slice(alloc, bytes.as_slice())?;
+                Ok(SharedBytes::new(alloc, bytes)?)
+            }
             _ => Err(MetaFault::BadFooter),
         }
     }

@@ -13,12 +13,14 @@ mod leaf_trees;
 mod leaves;
 mod logical_types;
 mod metadata;
+pub mod numbers;
 mod page_trees;
 mod pages;
 mod reading;
+mod shared;
 mod writing;
 
-pub use fault::{Memory, MetaFault};
+pub use fault::MetaFault;
 pub use headers::{DictionaryPage, PageHeader, PageV1, PageV2};
 pub use laws::{footers_are_read, page_headers_are_read, schemas_are_trees};
 pub use metadata::{
@@ -26,6 +28,7 @@ pub use metadata::{
     RowGroup,
 };
 pub use reading::{read_footer, read_page_header};
+pub use shared::SharedBytes;
 pub use writing::{write_footer, write_page_header};
 
 #[cfg(test)]

@@ -11,19 +11,19 @@ use std::alloc::Global;
 use thrift_compact::{Node, Tree};
 
 /// What is kept of a `DecimalType`.
-#[derive(Clone, Copy, Debug)]
+#[derive(Clone, Copy)]
 pub(crate) struct DecimalType {
     pub(crate) scale: i32,
 }
 
 /// What is kept of a `TimeUnit`.
-#[derive(Clone, Copy, Debug)]
+#[derive(Clone, Copy)]
 pub(crate) struct TimeUnit {
     pub(crate) number: u8,
 }
 
 /// What is kept of a `TimestampType`.
-#[derive(Clone, Copy, Debug)]
+#[derive(Clone, Copy)]
 pub(crate) struct TimestampType {
     pub(crate) unit: u8,
 }

@@ -1,4 +1,5 @@
 // What is kept of a footer.
+use crate::shared::SharedBytes;
 use dm_types::{Bytes, Items, WholeList};
 
 /// The leaves of a schema, in order.
@@ -28,7 +29,7 @@ pub struct Footer {
 #[derive(Debug, Drop)]
 pub struct LeafSchema {
     /// The name of the top-level element that the leaf is, or is below. It need not be UTF-8.
-    pub name: Bytes,
+    pub name: SharedBytes,
     /// Whether the leaf stands directly below the root.
     pub top: bool,
     /// The physical type: 0 BOOLEAN, 1 INT32, 2 INT64, 3 INT96, 4 FLOAT, 5 DOUBLE, 6 BYTE_ARRAY,

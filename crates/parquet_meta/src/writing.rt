@@ -5,7 +5,6 @@ ghost use Rattle.parquet_meta.specs.Meaning.{footer_in, page_header_in};
 ghost use Rattle.parquet_meta.specs.Writable.{IsWritableFooter};
 ghost use Rattle.parquet_meta.specs.Written.{header_fields, footer_fields};
 
-use crate::fault::Memory;
 use crate::footer_trees::footer_tree;
 use crate::headers::PageHeader;
 use crate::metadata::Footer;
@@ -20,7 +19,7 @@ use thrift_compact::{Tree, writable_values, write_struct};
 /// both optional and repeated; physical types, lengths and units in their range; no logical type
 /// that this project doesn't know; one chunk for each leaf and row group, of the leaf's type, in this
 /// file and with encodings of 32 bits; row counts that aren't negative and add up.
-pub fn write_footer(alloc: Global, footer: &Footer, out: &mut Bytes) -> Result<(), Memory>
+pub fn write_footer(alloc: Global, footer: &Footer, out: &mut Bytes) -> Result<(), AllocError>
     requires { IsWritableFooter footer.now }
     // The bytes, those of the footer's fields by the Thrift compact protocol.
     ensures written { OnOk result (out.new ≡ out.old ++ struct_bytes (footer_fields footer.now)) }
@@ -34,12 +33,16 @@ pub fn write_footer(alloc: Global, footer: &Footer, out: &mut Bytes) -> Result<(
     let mut bytes = Vec::new(alloc);
     match write_struct(&tree, &mut bytes) {
         Ok(()) => Ok(out.extend_from_slice(&bytes)?),
-        Err(_) => Err(Memory),
+        Err(none) => Err(none),
     }
 }
 
 /// Appends a page header. After a fault `out` is as before.
-pub fn write_page_header(alloc: Global, header: &PageHeader, out: &mut Bytes) -> Result<(), Memory>
+pub fn write_page_header(
+    alloc: Global,
+    header: &PageHeader,
+    out: &mut Bytes,
+) -> Result<(), AllocError>
     // The bytes, those of the header's fields by the Thrift compact protocol.
     ensures written { OnOk result (out.new
         ≡ out.old ++ struct_bytes (header_fields header.now)) }
@@ -54,6 +57,6 @@ pub fn write_page_header(alloc: Global, header: &PageHeader, out: &mut Bytes) ->
     let mut bytes = Vec::new(alloc);
     match write_struct(&tree, &mut bytes) {
         Ok(()) => Ok(out.extend_from_slice(&bytes)?),
-        Err(_) => Err(Memory),
+        Err(none) => Err(none),
     }
 }

@@ -3,7 +3,7 @@ use std::alloc::AllocError;
 use thiserror::Error;
 
 /// Why no struct is read.
-#[derive(Clone, Copy, Debug, PartialEq, Eq, Error)]
+#[derive(Debug, Drop, Error)]
 pub enum ThriftFault {
     /// No struct stands at the front of the bytes.
     #[error("no Thrift struct goes on at byte {at}")]
@@ -17,13 +17,8 @@ pub enum ThriftFault {
     Memory,
 }
 
-/// There was no memory.
-#[derive(Clone, Copy, Debug, PartialEq, Eq, Error)]
-#[error("no memory for a Thrift struct's bytes")]
-pub struct Memory;
-
 /// Why a value isn't read.
-#[derive(Clone, Copy, Debug, PartialEq, Eq)]
+#[derive(Drop)]
 pub(crate) enum Fault {
     /// No value goes on with the next byte, or there is none.
     Refused,

@@ -6,35 +6,35 @@ ghost use Rattle.thrift_compact.specs.Values as spec;
 use crate::kind::Kind;
 
 /// The first byte of a field.
-#[derive(Clone, Copy, Debug)]
+#[derive(Clone, Copy)]
 pub(crate) struct FieldStart {
     /// The id, or None where it follows.
     pub(crate) id: Option<i16>,
     pub(crate) kind: Kind,
 }
 
-#[derive(Clone, Copy, Debug)]
+#[derive(Clone, Copy)]
 pub(crate) struct FieldHeader {
     pub(crate) id: i16,
     pub(crate) kind: Kind,
 }
 
 /// The first byte of a list or a set.
-#[derive(Clone, Copy, Debug)]
+#[derive(Clone, Copy)]
 pub(crate) struct ListStart {
     /// The size, or None where it follows.
     pub(crate) size: Option<u64>,
     pub(crate) kind: Kind,
 }
 
-#[derive(Clone, Copy, Debug)]
+#[derive(Clone, Copy)]
 pub(crate) struct ListHeader {
     pub(crate) size: u64,
     pub(crate) kind: Kind,
 }
 
 /// A byte of a varint.
-#[derive(Clone, Copy, Debug)]
+#[derive(Clone, Copy)]
 pub(crate) struct VarintByte {
     /// Its seven low bits.
     pub(crate) low: u64,
@@ -43,7 +43,7 @@ pub(crate) struct VarintByte {
 }
 
 /// The types of a map's keys and values.
-#[derive(Clone, Copy, Debug)]
+#[derive(Clone, Copy)]
 pub(crate) struct EntryKinds {
     pub(crate) key: Kind,
     pub(crate) value: Kind,

@@ -4,7 +4,7 @@ ghost use Rattle.thrift_compact.specs.Kinds.{kind_of, code_of, is_container, wid
 
 /// The type of a value. The first two are the two truth values: in the header of a list, a set or
 /// a map both stand for a truth value.
-#[derive(Clone, Copy, Debug, PartialEq, Eq)]
+#[derive(Clone, Copy)]
 pub(crate) enum Kind {
     True,
     False,

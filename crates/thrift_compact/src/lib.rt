@@ -12,7 +12,7 @@ mod tree;
 mod value;
 mod write;
 
-pub use fault::{Memory, ThriftFault};
+pub use fault::ThriftFault;
 pub use laws::{one_place, one_struct, structs_are_read, writable_values, written_is_read};
 pub use number::read_varint;
 pub use read::read_struct;

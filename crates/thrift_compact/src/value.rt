@@ -5,7 +5,7 @@ ghost use Rattle.thrift_compact.specs.Values.{plain, sized, list_width};
 use crate::kind::Kind;
 use crate::tree::{Node, Nodes};
 
-#[derive(Debug, Drop)]
+#[derive(Drop)]
 pub(crate) struct Value {
     pub(crate) width: u8,
     pub(crate) node: Node,

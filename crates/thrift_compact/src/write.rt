@@ -6,7 +6,6 @@ ghost use Rattle.thrift_compact.specs.Places.{KeepsFront};
 ghost use Rattle.thrift_compact.specs.Writable.{IsWritable};
 ghost use Rattle.thrift_compact.specs.Written as spec;
 
-use crate::fault::Memory;
 use crate::kind::Kind;
 use crate::tree::{self, Blob, Field, Node, Tree};
 use std::alloc::AllocError;
@@ -223,7 +222,7 @@ fn write_value(node: &Node, width: u8, out: &mut Vec<u8>) -> Result<(), AllocErr
 /// The tree must be writable: it holds no map, and no list or set within a list or a set; the
 /// elements of each list are of one type; the whole numbers fit their width; and it nests at most
 /// 64 deep, the tree itself being the first.
-pub fn write_struct(tree: &Tree, out: &mut Vec<u8>) -> Result<(), Memory>
+pub fn write_struct(tree: &Tree, out: &mut Vec<u8>) -> Result<(), AllocError>
     requires { IsWritable tree.now }
     // The bytes, as a function of the tree.
     ensures written { OnOk result (out.new.items ≡ out.old.items ++ spec.struct tree.now) }
@@ -237,9 +236,9 @@ pub fn write_struct(tree: &Tree, out: &mut Vec<u8>) -> Result<(), Memory>
     let length = out.len();
     match write_fields(tree.as_slice(), out) {
         Ok(()) => Ok(()),
-        Err(_) => {
+        Err(none) => {
             out.truncate(length);
-            Err(Memory)
+            Err(none)
         }
     }
 }
