@@ -16,7 +16,8 @@ use Rattle.parquet_meta.specs.Forms.{needed, optional, checked, maybe_checked, i
 use Rattle.parquet_meta.specs.Elements.{element_of}
 use Rattle.parquet_meta.specs.Chunks.{column_of, chunk_of, group_of}
 use Rattle.parquet_meta.specs.Meaning.{footer_of, whole_footer, footer_in}
-use Rattle.parquet_meta.specs.Writable.{LeafFits, ChunkFits, GroupFits, FooterFits, IsWritableLeaf, IsWritableChunk, IsWritableFooter}
+use Rattle.parquet_meta.specs.Writable.{IsWritableLeaf, IsWritableChunk, IsWritableFooter}
+use Rattle.parquet_meta.specs.Steps.{LeafFits, ChunkFits, GroupFits, FooterFits}
 use Rattle.parquet_meta.specs.Written as w
 use Rattle.parquet_meta.proofs.Tables.{needed-table, optional-table, checked-table, i32_back, i64_back, binary_back, struct_back, list_back, each_back, maybe_back}
 use Rattle.parquet_meta.proofs.LeavesBack.{leaf_element, element_back, root_back, schema_back}

@@ -13,7 +13,8 @@ use Rattle.parquet_meta.specs.declared.metadata.LeafSchema.{LeafSchema}
 use Rattle.parquet_meta.specs.declared.metadata.ChunkMeta.{ChunkMeta}
 use Rattle.parquet_meta.specs.declared.metadata.RowGroup.{RowGroup}
 use Rattle.parquet_meta.specs.declared.metadata.Footer.{Footer}
-use Rattle.parquet_meta.specs.Writable.{LogicalFits, LeafFits, ChunkFits, GroupFits, FooterFits, IsWritableLogical, IsWritableLeaf, IsWritableChunk, IsWritableFooter}
+use Rattle.parquet_meta.specs.Writable.{IsWritableLogical, IsWritableLeaf, IsWritableChunk, IsWritableFooter}
+use Rattle.parquet_meta.specs.Steps.{LogicalFits, LeafFits, ChunkFits, GroupFits, FooterFits}
 use Rattle.parquet_meta.specs.Written as w
 use Rattle.parquet_meta.proofs.WritableTables.{WritableValues, IsEntry, is_32, id_fits, table_writable, inner_writable, entry_32, entry_maybe_32, entry_64, entry_maybe_64, entry_bytes}
 use Rattle.parquet_meta.proofs.FootersBack.{both}

@@ -10,7 +10,7 @@ use Rattle.parquet_meta.specs.declared.headers.PageV2.{PageV2}
 use Rattle.parquet_meta.specs.Forms.{needed, optional, checked, i32, struct}
 use Rattle.parquet_meta.specs.Headers.{page_of, dictionary_of, page_v2_of, header_of}
 use Rattle.parquet_meta.specs.Meaning.{front_header, page_header_in}
-use Rattle.parquet_meta.specs.Writable.{PageFits, DictionaryFits, PageV2Fits, HeaderFits}
+use Rattle.parquet_meta.specs.Steps.{PageFits, DictionaryFits, PageV2Fits, HeaderFits}
 use Rattle.parquet_meta.specs.Written as w
 use Rattle.parquet_meta.proofs.Tables.{needed-table, optional-table, checked-table, i32_back, struct_back, maybe_back}
 use Rattle.parquet_meta.proofs.WritableTables.{WritableValues, if_map, table_writable, inner_writable, entry_32, id_fits}

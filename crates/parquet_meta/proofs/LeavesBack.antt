@@ -16,7 +16,8 @@ use Rattle.parquet_meta.specs.Forms.{needed, optional, maybe, i32, binary, struc
 use Rattle.parquet_meta.specs.Logicals.{logical_of}
 use Rattle.parquet_meta.specs.Elements.{element_of}
 use Rattle.parquet_meta.specs.Leaves.{count_of, leaf_of, leaves_of, schema_leaves}
-use Rattle.parquet_meta.specs.Writable.{LogicalFits, LeafFits, IsWritableLogical, IsWritableLeaf}
+use Rattle.parquet_meta.specs.Writable.{IsWritableLogical, IsWritableLeaf}
+use Rattle.parquet_meta.specs.Steps.{LogicalFits, LeafFits}
 use Rattle.parquet_meta.specs.Written as w
 use Rattle.parquet_meta.proofs.Tables.{pick, needed-table, optional-table, i32_back, binary_back, struct_back, maybe_back}
 

@@ -4,7 +4,8 @@ use Rattle.std.proofs.lemmas.List.{append-nil, drop_all}
 use Rattle.parquet_meta.specs.declared.elements.Element.{Element}
 use Rattle.parquet_meta.specs.declared.metadata.LeafSchema.{LeafSchema}
 use Rattle.parquet_meta.specs.declared.fault.MetaFault.TheVariants.{BadFooter}
-use Rattle.parquet_meta.specs.Leaves.{count_of, own_leaves, joined, leaves_of, AddsOwn}
+use Rattle.parquet_meta.specs.Leaves.{count_of, own_leaves, joined, leaves_of}
+use Rattle.parquet_meta.specs.Steps.{AddsOwn}
 
 bind_none : {A B : Type 0} (o : Option A) (f : A → Option B) → ((a : A) → f a ≡ None) → option_and_then f o ≡ None
 bind_none None f h = refl

@@ -1,5 +1,5 @@
 pub mod Forms
-pub mod Answers
+pub mod Gives
 pub mod Headers
 pub mod Logicals
 pub mod Elements
@@ -9,3 +9,4 @@ pub mod Chunks
 pub mod Meaning
 pub mod Written
 pub mod Writable
+pub mod Steps

@@ -1,4 +1,5 @@
--- What a logical type says (parquet.thrift, LogicalType). A union should have one member; of those that are known the last in the bytes counts.
+-- What a logical type says (parquet.thrift, LogicalType). A union should have one member; of those that are known the
+-- last in the bytes counts.
 use Rattle.std.specs.Prelude.{ℕ, ℤ, pos, if◌then◌else◌, List, [], ◌∷◌, Option, Some, None, unwrap_or}
 use Rattle.std.specs.Ordering.{int_eq}
 use Rattle.dm_types.specs.Then.{◌>>=◌}
@@ -6,6 +7,7 @@ use Rattle.thrift_compact.specs.declared.tree.Field.{Field}
 use Rattle.parquet_meta.specs.declared.forms.Shape.TheVariants as shape
 use Rattle.parquet_meta.specs.declared.metadata.Logical.{Logical}
 use Rattle.parquet_meta.specs.declared.metadata.Logical.TheVariants as logical
+use Rattle.parquet_meta.specs.declared.numbers.TheConstants.{NO_UNIT, MILLIS, MICROS, NANOS}
 use Rattle.parquet_meta.specs.declared.logical_types.DecimalType.{DecimalType}
 use Rattle.parquet_meta.specs.declared.logical_types.TimeUnit.{TimeUnit}
 use Rattle.parquet_meta.specs.declared.logical_types.TimestampType.{TimestampType}
@@ -18,10 +20,10 @@ decimal_of t = do
   precision ← checked shape.I32 (pos 2) t  -- 2 precision
   Some (record { scale = unwrap_or scale (pos 0) })
 
--- the member of a TimeUnit as a number, 0 where none is known
+-- the number of a TimeUnit by the id of its member
 abbrev pub unit_by : Option ℤ → ℕ
-unit_by None = 0
-unit_by (Some id) = if int_eq id (pos 1) then 1 else if int_eq id (pos 2) then 2 else 3
+unit_by None = NO_UNIT
+unit_by (Some id) = if int_eq id (pos 1) then MILLIS else if int_eq id (pos 2) then MICROS else NANOS
 
 -- TimeUnit
 abbrev pub unit_of : List Field → Option TimeUnit
@@ -32,7 +34,7 @@ unit_of t = do
   Some (record { number = unit_by (last_among (pos 1 ∷ pos 2 ∷ pos 3 ∷ []) t) })
 
 abbrev pub number_of : Option TimeUnit → ℕ
-number_of None = 0
+number_of None = NO_UNIT
 number_of (Some unit) = unit.number
 
 -- TimestampType
@@ -47,7 +49,7 @@ scale_of None = pos 0
 scale_of (Some decimal) = decimal.scale
 
 abbrev pub unit_number : Option TimestampType → ℕ
-unit_number None = 0
+unit_number None = NO_UNIT
 unit_number (Some timestamp) = timestamp.unit
 
 -- the logical type by the id of its last known member

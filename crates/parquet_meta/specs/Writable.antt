@@ -1,101 +1,29 @@
--- Which footers are written, and what a type keeps of its numbers.
-use Rattle.std.specs.Prelude.{◌≡◌, ⊤, pos, ◌<◌, ◌≤◌, ◌^◌, true, false, ◌&&◌, length, IfSome, FitsSigned}
-use Rattle.std.specs.Int.{w32, w64}
+-- Which footers are written.
+use Rattle.std.specs.Prelude.{◌≡◌, ⊤, ◌<◌, ◌≤◌, ◌^◌, true, false, ◌&&◌, length, FitsSigned}
+use Rattle.std.specs.Int.{w32}
 use Rattle.std.specs.List.{AllByRecursion}
-use Rattle.parquet_meta.specs.declared.headers.PageHeader.{PageHeader}
-use Rattle.parquet_meta.specs.declared.headers.PageV1.{PageV1}
-use Rattle.parquet_meta.specs.declared.headers.DictionaryPage.{DictionaryPage}
-use Rattle.parquet_meta.specs.declared.headers.PageV2.{PageV2}
 use Rattle.parquet_meta.specs.declared.metadata.Logical.{Logical}
 use Rattle.parquet_meta.specs.declared.metadata.Logical.TheVariants as logical
 use Rattle.parquet_meta.specs.declared.metadata.LeafSchema.{LeafSchema}
 use Rattle.parquet_meta.specs.declared.metadata.ChunkMeta.{ChunkMeta}
-use Rattle.parquet_meta.specs.declared.metadata.RowGroup.{RowGroup}
 use Rattle.parquet_meta.specs.declared.metadata.Footer.{Footer}
+use Rattle.parquet_meta.specs.declared.numbers.TheConstants.{FIXED_LEN_BYTE_ARRAY, NANOS}
 use Rattle.parquet_meta.specs.Leaves.{is_long_enough}
 use Rattle.parquet_meta.specs.Meaning.{groups_fit}
-use Rattle.parquet_meta.specs.Written.{told_length, repetition_by}
 
--- ---- the ranges that the types of the numbers have
-
-pub record PageFits (p : PageV1) : Type 0 where
-  pub values : FitsSigned w32 p.values
-  pub encoding : FitsSigned w32 p.encoding
-  pub definition : FitsSigned w32 p.definition
-  pub repetition : FitsSigned w32 p.repetition
-
-pub record DictionaryFits (p : DictionaryPage) : Type 0 where
-  pub values : FitsSigned w32 p.values
-  pub encoding : FitsSigned w32 p.encoding
-
-pub record PageV2Fits (p : PageV2) : Type 0 where
-  pub values : FitsSigned w32 p.values
-  pub nulls : FitsSigned w32 p.nulls
-  pub rows : FitsSigned w32 p.rows
-  pub encoding : FitsSigned w32 p.encoding
-  pub definition : FitsSigned w32 p.definition_bytes
-  pub repetition : FitsSigned w32 p.repetition_bytes
-
-pub record HeaderFits (h : PageHeader) : Type 0 where
-  pub kind : FitsSigned w32 h.kind
-  pub unpacked : FitsSigned w32 h.unpacked
-  pub packed : FitsSigned w32 h.packed
-  pub page : IfSome h.page PageFits
-  pub dictionary : IfSome h.dictionary DictionaryFits
-  pub page_v2 : IfSome h.page_v2 PageV2Fits
-
-abbrev pub LogicalFits : Logical → Type 0
-LogicalFits logical.Absent = ⊤
-LogicalFits logical.Str = ⊤
-LogicalFits (logical.Decimal scale) = FitsSigned w32 scale
-LogicalFits logical.Date = ⊤
-LogicalFits (logical.Timestamp unit) = ⊤
-LogicalFits logical.Other = ⊤
-
-pub record LeafFits (leaf : LeafSchema) : Type 0 where
-  pub physical : FitsSigned w32 (pos leaf.physical)
-  pub length : IfSome (told_length leaf.length) (FitsSigned w32)
-  pub repetition : FitsSigned w32 (pos (repetition_by leaf.optional leaf.repeated))
-  pub converted : IfSome leaf.annotation.converted (FitsSigned w32)
-  pub scale : IfSome leaf.annotation.scale (FitsSigned w32)
-  pub precision : IfSome leaf.annotation.precision (FitsSigned w32)
-  pub field_id : IfSome leaf.field_id (FitsSigned w32)
-  pub logical : LogicalFits leaf.annotation.logical
-
-pub record ChunkFits (c : ChunkMeta) : Type 0 where
-  pub physical : FitsSigned w32 c.physical
-  pub codec : FitsSigned w32 c.codec
-  pub values : FitsSigned w64 c.values
-  pub unpacked : FitsSigned w64 c.unpacked
-  pub packed : FitsSigned w64 c.packed
-  pub page_at : FitsSigned w64 c.page_at
-  pub dictionary_at : IfSome c.dictionary_at (FitsSigned w64)
-
-pub record GroupFits (g : RowGroup) : Type 0 where
-  pub chunks : AllByRecursion ChunkFits g.chunks
-  pub bytes : FitsSigned w64 g.bytes
-  pub rows : FitsSigned w64 g.rows
-
-pub record FooterFits (f : Footer) : Type 0 where
-  pub leaves : AllByRecursion LeafFits f.leaves
-  pub rows : FitsSigned w64 f.rows
-  pub groups : AllByRecursion GroupFits f.groups
-
--- ---- which footers are written
-
--- a logical type that this project knows, with a unit from 0 to 3
+-- a logical type that this project knows, with a unit from NO_UNIT to NANOS
 abbrev pub IsWritableLogical : Logical → Type 0
 IsWritableLogical logical.Absent = ⊤
 IsWritableLogical logical.Str = ⊤
 IsWritableLogical (logical.Decimal scale) = ⊤
 IsWritableLogical logical.Date = ⊤
-IsWritableLogical (logical.Timestamp unit) = unit ≤ 3
+IsWritableLogical (logical.Timestamp unit) = unit ≤ NANOS
 IsWritableLogical logical.Other = ⊥
 
 -- a leaf at the top, of a known physical type, with a length above 0 where values need one, and not both optional and repeated
 pub record IsWritableLeaf (leaf : LeafSchema) : Type 0 where
   pub top : leaf.top ≡ true
-  pub physical : leaf.physical ≤ 7
+  pub physical : leaf.physical ≤ FIXED_LEN_BYTE_ARRAY
   pub length : is_long_enough leaf.physical leaf.length ≡ true
   pub single : (leaf.optional && leaf.repeated) ≡ false
   pub logical : IsWritableLogical leaf.annotation.logical
@@ -105,8 +33,8 @@ pub record IsWritableChunk (c : ChunkMeta) : Type 0 where
   pub inside : c.external ≡ false
   pub encodings : AllByRecursion (FitsSigned w32) c.encodings
 
--- Fewer than 2 to the 31 leaves at the top, one chunk for each leaf and row group, of the leaf's type and in this file, and row counts that
--- aren't negative and add up.
+-- Fewer than 2 to the 31 leaves at the top, one chunk for each leaf and row group, of the leaf's type and in this file,
+-- and row counts that aren't negative and add up.
 pub record IsWritableFooter (f : Footer) : Type 0 where
   pub few : length f.leaves < 2 ^ 31
   pub leaves : AllByRecursion IsWritableLeaf f.leaves

@@ -14,6 +14,7 @@ use Rattle.parquet_meta.specs.declared.metadata.LeafSchema.{LeafSchema}
 use Rattle.parquet_meta.specs.declared.metadata.ChunkMeta.{ChunkMeta}
 use Rattle.parquet_meta.specs.declared.metadata.RowGroup.{RowGroup}
 use Rattle.parquet_meta.specs.declared.metadata.Footer.{Footer}
+use Rattle.parquet_meta.specs.declared.numbers.TheConstants.{NO_UNIT, REQUIRED, OPTIONAL, REPEATED}
 
 -- ---- tables of fields
 
@@ -97,26 +98,28 @@ header_fields h = fields_of (header_table h)
 
 -- ---- schemas
 
--- TimeUnit: 1 MILLIS, 2 MICROS, 3 NANOS; 0 stands for none
+-- TimeUnit, whose member has the number of the unit as its id
 abbrev pub unit_content : ℕ → Option (ℕ × Node)
-unit_content unit = if unit == 0 then None else Some (struct ((pos unit, Some (struct [])) ∷ []))
+unit_content unit = if unit == NO_UNIT then None else Some (struct ((pos unit, Some (struct [])) ∷ []))
 
 -- LogicalType: 1 STRING, 5 DECIMAL (1 scale), 6 DATE, 8 TIMESTAMP (2 unit)
 abbrev pub logical_content : Logical → Option (ℕ × Node)
 logical_content logical.Absent = None
 logical_content logical.Str = Some (struct ((pos 1, Some (struct [])) ∷ []))
-logical_content (logical.Decimal scale) = Some (struct ((pos 5, Some (struct ((pos 1, Some (whole_32 scale)) ∷ []))) ∷ []))
+logical_content (logical.Decimal scale) =
+    Some (struct ((pos 5, Some (struct ((pos 1, Some (whole_32 scale)) ∷ []))) ∷ []))
 logical_content logical.Date = Some (struct ((pos 6, Some (struct [])) ∷ []))
-logical_content (logical.Timestamp unit) = Some (struct ((pos 8, Some (struct ((pos 2, unit_content unit) ∷ []))) ∷ []))
+logical_content (logical.Timestamp unit) =
+    Some (struct ((pos 8, Some (struct ((pos 2, unit_content unit) ∷ []))) ∷ []))
 logical_content logical.Other = Some (struct [])
 
 -- a length, which is left out where it is 0
 abbrev pub told_length : ℤ → Option ℤ
 told_length z = if int_eq z (pos 0) then None else Some z
 
--- 0 REQUIRED, 1 OPTIONAL, 2 REPEATED
+-- FieldRepetitionType
 abbrev pub repetition_by : Bool → Bool → ℕ
-repetition_by optional repeated = if repeated then 2 else if optional then 1 else 0
+repetition_by optional repeated = if repeated then REPEATED else if optional then OPTIONAL else REQUIRED
 
 -- SchemaElement of a leaf
 abbrev pub leaf_table : LeafSchema → Table
@@ -181,7 +184,10 @@ group_table g =
 abbrev pub footer_table : Footer → Table
 footer_table f =
     (pos 1, Some (whole_32 (pos 1)))  -- 1 version
-    ∷ (pos 2, Some (nodes (inner (root_table (length f.leaves)) ∷ map (λ leaf. inner (leaf_table leaf)) f.leaves)))  -- 2 schema
+    ∷ (
+      pos 2,
+      Some (nodes (inner (root_table (length f.leaves)) ∷ map (λ leaf. inner (leaf_table leaf)) f.leaves)),
+    )  -- 2 schema
     ∷ (pos 3, Some (whole_64 f.rows))  -- 3 num_rows
     ∷ (pos 4, Some (nodes (map (λ g. inner (group_table g)) f.groups)))  -- 4 row_groups
     ∷ (pos 6, Some (bytes (codes "deltamerge")))  -- 6 created_by

@@ -1,6 +1,6 @@
 // Row groups and column chunks, from their trees.
 ghost use Rattle.std.specs.Prelude.{◌≡◌, pos, IfOk};
-ghost use Rattle.parquet_meta.specs.Answers.{Gives};
+ghost use Rattle.parquet_meta.specs.Gives.{Gives};
 ghost use Rattle.parquet_meta.specs.Forms.{struct, list as list_of, i32 as i32_of, needed as needed_of};
 ghost use Rattle.parquet_meta.specs.Chunks.{column_of, chunk_of, group_of};
 

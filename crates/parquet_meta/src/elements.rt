@@ -1,5 +1,5 @@
 // Elements of the schema, from their trees.
-ghost use Rattle.parquet_meta.specs.Answers.{Gives};
+ghost use Rattle.parquet_meta.specs.Gives.{Gives};
 ghost use Rattle.parquet_meta.specs.Forms.{struct};
 ghost use Rattle.parquet_meta.specs.Elements.{element_of};
 

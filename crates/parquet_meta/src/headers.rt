@@ -3,7 +3,7 @@
 /// A page header (parquet.thrift, `PageHeader`).
 #[derive(Debug, Drop)]
 pub struct PageHeader {
-    /// 0 DATA_PAGE, 1 INDEX_PAGE, 2 DICTIONARY_PAGE, 3 DATA_PAGE_V2, and others.
+    /// `numbers::DATA_PAGE`, and the numbers of other types of pages.
     pub kind: i32,
     /// The uncompressed size of the page in bytes, its header not counted.
     pub unpacked: i32,
@@ -18,7 +18,7 @@ pub struct PageHeader {
 }
 
 /// What is told of a data page (parquet.thrift, `DataPageHeader`).
-#[derive(Clone, Copy, Debug, PartialEq, Eq)]
+#[derive(Clone, Copy, Debug)]
 pub struct PageV1 {
     /// How many values it has, nulls counted.
     pub values: i32,
@@ -31,7 +31,7 @@ pub struct PageV1 {
 }
 
 /// What is told of a dictionary page (parquet.thrift, `DictionaryPageHeader`).
-#[derive(Clone, Copy, Debug, PartialEq, Eq)]
+#[derive(Clone, Copy, Debug)]
 pub struct DictionaryPage {
     /// How many values it has.
     pub values: i32,
@@ -40,7 +40,7 @@ pub struct DictionaryPage {
 }
 
 /// What is told of a data page of the second version (parquet.thrift, `DataPageHeaderV2`).
-#[derive(Clone, Copy, Debug, PartialEq, Eq)]
+#[derive(Clone, Copy, Debug)]
 pub struct PageV2 {
     /// How many values it has, nulls counted.
     pub values: i32,

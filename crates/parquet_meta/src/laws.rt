@@ -12,7 +12,7 @@ ghost use Rattle.parquet_meta.specs.Meaning.{footer_of, footer_in, page_header_i
 ghost use Rattle.parquet_meta.specs.Leaves.{schema_leaves};
 ghost use Rattle.parquet_meta.specs.Trees.{IsSchema};
 
-use thrift_compact::structs_are_read;
+use thrift_compact::laws;
 
 /// A law: bytes are a footer exactly where they are a struct of the Thrift compact protocol that says one.
 pub fn footers_are_read()
@@ -21,7 +21,7 @@ pub fn footers_are_read()
     ensures only { (bytes : List ℕ) (tree : List AField) → IsStruct bytes tree
         → footer_in bytes ≡ footer_of tree }
 {
-    structs_are_read();
+    laws::structs_are_read();
 }
 
 /// A law: a page header stands at the front of bytes exactly where a struct of the Thrift compact
@@ -33,7 +33,7 @@ pub fn page_headers_are_read()
     ensures only { (front more : List ℕ) (tree : List AField) → IsStruct front tree
         → page_header_in (front ++ more) ≡ option_map (λ header. (header, length front)) (header_of tree) }
 {
-    structs_are_read();
+    laws::structs_are_read();
 }
 
 /// A law: the elements of a schema are a tree in preorder, and its leaves are those that are found.

@@ -2,10 +2,11 @@
 ghost use Rattle.std.specs.Prelude.{◌≡◌, ◌++◌, ◌∷◌, [], pos, Some, IfOk, OnOk, option_map};
 ghost use Rattle.thrift_compact.specs.declared.tree.Node.TheVariants as n;
 ghost use Rattle.parquet_meta.specs.Written.{inner, fields_of, entry, unit_content, logical_content, told_length as told_length_of, repetition_by, leaf_table};
-ghost use Rattle.parquet_meta.specs.Writable.{LogicalFits, LeafFits};
+ghost use Rattle.parquet_meta.specs.Steps.{LogicalFits, LeafFits};
 
 use crate::building::{Written, put, put_maybe, put_node};
 use crate::metadata::{LeafSchema, Logical};
+use crate::numbers::{NO_UNIT, OPTIONAL, REPEATED, REQUIRED};
 use sqlite_items::Items;
 use std::alloc::{AllocError, Global};
 use thrift_compact::{Node, Tree};
@@ -34,7 +35,7 @@ fn timestamp_tree(alloc: Global, unit: u8) -> Result<Tree, AllocError>
     ensures { IfOk result (λ tree. tree ≡ fields_of ((pos 2, unit_content unit) ∷ [])) }
 {
     let mut tree = Items::new(alloc);
-    if unit != 0 {
+    if unit != NO_UNIT {
         let member = union(alloc, i16::from(unit), Items::new(alloc))?;
         put_node(&mut tree, 2, 0, member)?;
     }
@@ -73,16 +74,16 @@ fn told_length(length: i32) -> Option<i32>
     if length == 0 { None } else { Some(length) }
 }
 
-/// 0 REQUIRED, 1 OPTIONAL, 2 REPEATED.
-fn repetition(optional: bool, repeated: bool) -> i32
-    ensures { result ≡ pos (repetition_by optional repeated) }
+/// The `FieldRepetitionType`.
+fn repetition(optional: bool, repeated: bool) -> u8
+    ensures { result ≡ repetition_by optional repeated }
 {
     if repeated {
-        2
+        REPEATED
     } else if optional {
-        1
+        OPTIONAL
     } else {
-        0
+        REQUIRED
     }
 }
 
@@ -101,12 +102,8 @@ impl Written for LeafSchema {
         let mut tree = Items::new(alloc);
         put(alloc, &mut tree, 1, &i32::from(self.physical))?;
         put_maybe(alloc, &mut tree, 2, &told_length(self.length))?;
-        put(
-            alloc,
-            &mut tree,
-            3,
-            &repetition(self.optional, self.repeated),
-        )?;
+        let repetition = i32::from(repetition(self.optional, self.repeated));
+        put(alloc, &mut tree, 3, &repetition)?;
         put(alloc, &mut tree, 4, &self.name)?;
         put_maybe(alloc, &mut tree, 6, &self.annotation.converted)?;
         put_maybe(alloc, &mut tree, 7, &self.annotation.scale)?;

@@ -1,11 +1,13 @@
 // The leaves of a schema, from its elements.
 ghost use Rattle.std.specs.Prelude.{◌≡◌, ◌<◌, ◌≤◌, ◌+◌, ◌++◌, length, option_map, option_and_then, IfSome, IfNone};
-ghost use Rattle.parquet_meta.specs.Answers.{Gives};
-ghost use Rattle.parquet_meta.specs.Leaves.{up_to as number_up_to, count_of, is_long_enough, leaf_of, own_leaves, AddsOwn, leaves_of, schema_leaves as leaves_of_schema};
+ghost use Rattle.parquet_meta.specs.Gives.{Gives};
+ghost use Rattle.parquet_meta.specs.Leaves.{up_to as number_up_to, count_of, is_long_enough, leaf_of, own_leaves, leaves_of, schema_leaves as leaves_of_schema};
+ghost use Rattle.parquet_meta.specs.Steps.{AddsOwn};
 
 use crate::elements::Element;
 use crate::fault::MetaFault;
 use crate::metadata::{LeafList, LeafSchema};
+use crate::numbers::{FIXED_LEN_BYTE_ARRAY, OPTIONAL, REPEATED};
 use dm_types::Items;
 use std::alloc::Global;
 
@@ -33,7 +35,7 @@ fn count(children: Option<i32>) -> Option<usize>
 fn long_enough(physical: u8, length: i32) -> bool
     ensures { result ≡ is_long_enough physical length }
 {
-    physical != 7 || length > 0
+    physical != FIXED_LEN_BYTE_ARRAY || length > 0
 }
 
 fn leaf(
@@ -44,8 +46,8 @@ fn leaf(
 ) -> Result<LeafSchema, MetaFault>
     ensures { Gives (leaf_of top owner.now element.now) result }
 {
-    let repetition = up_to(2, element.repetition).ok_or(MetaFault::BadFooter)?;
-    let physical = up_to(7, element.physical).ok_or(MetaFault::BadFooter)?;
+    let repetition = up_to(REPEATED, element.repetition).ok_or(MetaFault::BadFooter)?;
+    let physical = up_to(FIXED_LEN_BYTE_ARRAY, element.physical).ok_or(MetaFault::BadFooter)?;
     let length = element.length.unwrap_or(0);
     if !long_enough(physical, length) {
         return Err(MetaFault::BadFooter);
@@ -55,8 +57,8 @@ fn leaf(
         top,
         physical,
         length,
-        optional: repetition == 1,
-        repeated: repetition == 2,
+        optional: repetition == OPTIONAL,
+        repeated: repetition == REPEATED,
         annotation: element.annotation,
         field_id: owner.field_id,
     })
@@ -75,7 +77,7 @@ fn add_own(
     let children = count(element.children).ok_or(MetaFault::BadFooter)?;
     if children == 0 {
         leaves.push(leaf(alloc, top, owner, element)?)?;
-    } else if up_to(2, element.repetition).is_none() {
+    } else if up_to(REPEATED, element.repetition).is_none() {
         return Err(MetaFault::BadFooter);
     }
     Ok(children)

@@ -8,7 +8,7 @@ mod fault;
 mod footer_trees;
 mod forms;
 mod headers;
-mod laws;
+pub mod laws;
 mod leaf_trees;
 mod leaves;
 mod logical_types;
@@ -22,7 +22,6 @@ mod writing;
 
 pub use fault::MetaFault;
 pub use headers::{DictionaryPage, PageHeader, PageV1, PageV2};
-pub use laws::{footers_are_read, page_headers_are_read, schemas_are_trees};
 pub use metadata::{
     Annotation, ChunkList, ChunkMeta, Footer, GroupList, LeafList, LeafSchema, Logical, Names,
     RowGroup,
@@ -30,6 +29,3 @@ pub use metadata::{
 pub use reading::{read_footer, read_page_header};
 pub use shared::SharedBytes;
 pub use writing::{write_footer, write_page_header};
-
-#[cfg(test)]
-mod tests;

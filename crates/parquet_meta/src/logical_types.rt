@@ -1,12 +1,13 @@
 // Logical types, from their trees.
 ghost use Rattle.std.specs.Prelude.{◌≡◌};
-ghost use Rattle.parquet_meta.specs.Answers.{Gives};
+ghost use Rattle.parquet_meta.specs.Gives.{Gives};
 ghost use Rattle.parquet_meta.specs.Forms.{struct};
 ghost use Rattle.parquet_meta.specs.Logicals.{decimal_of, unit_by, unit_of, number_of, timestamp_of, scale_of, unit_number, logical_by, logical_of};
 
 use crate::fault::MetaFault;
 use crate::forms::{Form, Shape, checked, last_among, optional, struct_in};
 use crate::metadata::Logical;
+use crate::numbers::{MICROS, MILLIS, NANOS, NO_UNIT};
 use std::alloc::Global;
 use thrift_compact::{Node, Tree};
 
@@ -53,10 +54,10 @@ fn number_by(member: Option<i16>) -> u8
     ensures { result ≡ unit_by member }
 {
     match member {
-        None => 0,
-        Some(1) => 1,
-        Some(2) => 2,
-        Some(_) => 3,
+        None => NO_UNIT,
+        Some(1) => MILLIS,
+        Some(2) => MICROS,
+        Some(_) => NANOS,
     }
 }
 
@@ -87,7 +88,7 @@ fn number(unit: Option<TimeUnit>) -> u8
     ensures { result ≡ number_of unit }
 {
     match unit {
-        None => 0,
+        None => NO_UNIT,
         Some(unit) => unit.number,
     }
 }
@@ -131,7 +132,7 @@ fn by_member(
         Some(6) => Logical::Date,
         Some(_) => Logical::Timestamp {
             unit: match timestamp {
-                None => 0,
+                None => NO_UNIT,
                 Some(timestamp) => timestamp.unit,
             },
         },

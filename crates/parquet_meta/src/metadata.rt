@@ -32,10 +32,10 @@ pub struct LeafSchema {
     pub name: SharedBytes,
     /// Whether the leaf stands directly below the root.
     pub top: bool,
-    /// The physical type: 0 BOOLEAN, 1 INT32, 2 INT64, 3 INT96, 4 FLOAT, 5 DOUBLE, 6 BYTE_ARRAY,
-    /// 7 FIXED_LEN_BYTE_ARRAY.
+    /// The physical type, from `numbers::BOOLEAN` to `numbers::FIXED_LEN_BYTE_ARRAY`.
     pub physical: u8,
-    /// How many bytes a value of the type 7 has, above 0; 0 where no length is told.
+    /// How many bytes a value of `numbers::FIXED_LEN_BYTE_ARRAY` has, above 0; 0 where no length is
+    /// told.
     pub length: i32,
     /// Whether the leaf itself is OPTIONAL.
     pub optional: bool,
@@ -48,10 +48,9 @@ pub struct LeafSchema {
 }
 
 /// What the values of a leaf mean.
-#[derive(Clone, Copy, Debug, PartialEq, Eq)]
+#[derive(Clone, Copy, Debug)]
 pub struct Annotation {
-    /// `converted_type`: 0 UTF8, 5 DECIMAL, 6 DATE, 9 TIMESTAMP_MILLIS, 10 TIMESTAMP_MICROS,
-    /// 15 INT_8, 16 INT_16, and others.
+    /// `converted_type`: `numbers::UTF8` and others.
     pub converted: Option<i32>,
     /// `scale`.
     pub scale: Option<i32>,
@@ -62,7 +61,7 @@ pub struct Annotation {
 }
 
 /// A logical type (parquet.thrift, `LogicalType`).
-#[derive(Clone, Copy, Debug, PartialEq, Eq)]
+#[derive(Clone, Copy, Debug)]
 pub enum Logical {
     /// None is told.
     Absent,
@@ -77,7 +76,7 @@ pub enum Logical {
     Date,
     /// TIMESTAMP.
     Timestamp {
-        /// 1 MILLIS, 2 MICROS, 3 NANOS; 0 where no unit is told that this project knows.
+        /// `numbers::MILLIS`, `numbers::MICROS`, `numbers::NANOS`, or `numbers::NO_UNIT`.
         unit: u8,
     },
     /// One that this project doesn't know.
@@ -107,7 +106,7 @@ pub struct ChunkMeta {
     pub encodings: WholeList,
     /// The names from the top of the schema down to the leaf.
     pub path: Names,
-    /// The compression codec: 0 UNCOMPRESSED, and others.
+    /// The compression codec: `numbers::UNCOMPRESSED` and others.
     pub codec: i32,
     /// How many values it has, nulls counted.
     pub values: i64,

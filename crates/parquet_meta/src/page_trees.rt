@@ -1,7 +1,7 @@
 // The trees of page headers.
 ghost use Rattle.std.specs.Prelude.{◌≡◌, IfOk, OnOk};
 ghost use Rattle.parquet_meta.specs.Written.{inner, page_table, dictionary_table, page_v2_table, header_fields};
-ghost use Rattle.parquet_meta.specs.Writable.{PageFits, DictionaryFits, PageV2Fits, HeaderFits};
+ghost use Rattle.parquet_meta.specs.Steps.{PageFits, DictionaryFits, PageV2Fits, HeaderFits};
 
 use crate::building::{Written, put, put_maybe};
 use crate::headers::{DictionaryPage, PageHeader, PageV1, PageV2};

@@ -1,5 +1,5 @@
 // Page headers, from their trees.
-ghost use Rattle.parquet_meta.specs.Answers.{Gives};
+ghost use Rattle.parquet_meta.specs.Gives.{Gives};
 ghost use Rattle.parquet_meta.specs.Forms.{struct};
 ghost use Rattle.parquet_meta.specs.Headers.{page_of, dictionary_of, page_v2_of, header_of};
 

@@ -11,7 +11,7 @@ use crate::metadata::Footer;
 use crate::page_trees::header_tree;
 use dm_types::Bytes;
 use std::alloc::{AllocError, Global};
-use thrift_compact::{Tree, writable_values, write_struct};
+use thrift_compact::{laws, write_struct};
 
 /// Appends a footer. After a fault `out` is as before.
 ///
@@ -29,7 +29,7 @@ pub fn write_footer(alloc: Global, footer: &Footer, out: &mut Bytes) -> Result<(
     ensures memory { OnErr result (out.new ≡ out.old) }
 {
     let tree = footer_tree(alloc, footer)?;
-    writable_values();
+    laws::writable_values();
     let mut bytes = Vec::new(alloc);
     match write_struct(&tree, &mut bytes) {
         Ok(()) => Ok(out.extend_from_slice(&bytes)?),
@@ -53,7 +53,7 @@ pub fn write_page_header(
     ensures memory { OnErr result (out.new ≡ out.old) }
 {
     let tree = header_tree(alloc, header)?;
-    writable_values();
+    laws::writable_values();
     let mut bytes = Vec::new(alloc);
     match write_struct(&tree, &mut bytes) {
         Ok(()) => Ok(out.extend_from_slice(&bytes)?),

@@ -3,7 +3,7 @@ use Rattle.std.specs.Prelude.{OnOk}
 use Rattle.std.proofs.Common.{◌≡◌, ℕ, zero, suc, ◌+◌, ◌/◌, ◌%◌, ◌<◌, ◌≤◌, ltb, Bool, true, false, cond, Result, Ok, Err, List, [], ◌∷◌, ◌++◌, length, take, refl, sym, ap, ◌∙◌, arith, append_assoc, length-take}
 use Rattle.std.proofs.lemmas.Bool.{lt-ltb, ltb-false, le-ltb}
 use Rattle.std.proofs.Math.Seq.{take-append_seam, take-length}
-use Rattle.thrift_compact.specs.Places.{KeepsFront}
+use Rattle.thrift_compact.specs.Steps.{KeepsFront}
 use Rattle.thrift_compact.specs.Written as w
 
 pub keeps_same : (old : List ℕ) → KeepsFront old old

@@ -5,7 +5,7 @@ use Rattle.thrift_compact.specs.Values.{id_of}
 use Rattle.thrift_compact.specs.Grammar.{Form, IsFields}
 use Rattle.thrift_compact.specs.Reading.{Outcome, Reader, ◌>>=◌, made, fields_of}
 use Rattle.thrift_compact.specs.declared.tree.Field.{Field}
-use Rattle.thrift_compact.proofs.Forms.{Reads, Stops}
+use Rattle.thrift_compact.proofs.Forms.{IsReaderOf, Stops}
 
 -- a byte that isn't 0, and more
 pub record Starts (front : List ℕ) : Type 0 where
@@ -14,7 +14,7 @@ pub record Starts (front : List ℕ) : Type 0 where
   pub split : front ≡ first ∷ behind
   pub some : eqb first 0 ≡ false
 
-module _ (F : ℤ → Form Field) (f : ℤ → Reader Field) (reads : (last : ℤ) → Reads (F last) (f last)) (starts : (last : ℤ) (front : List ℕ) (x : Field) → F last front x → Starts front) where
+module _ (F : ℤ → Form Field) (f : ℤ → Reader Field) (reads : (last : ℤ) → IsReaderOf (F last) (f last)) (starts : (last : ℤ) (front : List ℕ) (x : Field) → F last front x → Starts front) where
   -- a field takes a byte
   pub shorter : (last : ℤ) (b : ℕ) (rest : List ℕ) (x : Field) (behind : List ℕ) → f last (b ∷ rest) ≡ Ok (x, behind) → length behind ≤ length rest
   shorter last b rest x behind is =
@@ -178,7 +178,7 @@ module _ (F : ℤ → Form Field) (f : ℤ → Reader Field) (reads : (last : �
       by_end again false e = by_field again e _ refl
       by_end again true e = absurd (let both : ◌≡◌ {A = Outcome (List Field)} (Ok ([], bytes)) (Err rest) = sym (all_end last b bytes e) ∙ is in cc)
 
-  pub fields_read : (last : ℤ) → Reads (IsFields F last) (all last)
+  pub fields_read : (last : ℤ) → IsReaderOf (IsFields F last) (all last)
   fields_read last = record {
     found = λ bytes fs rest is. fields_found (length bytes) last bytes (omega arith) fs rest is;
     only = fields_only last;

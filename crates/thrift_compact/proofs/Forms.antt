@@ -22,7 +22,7 @@ pub record Some_of {A : Type 0} (R : Form A) : Type 0 where
   pub is : R bytes value
 
 -- The reader finds what the form has, whatever follows, and stops at the first byte with which nothing goes on.
-pub record Reads {A : Type 0} (R : Form A) (f : Reader A) : Type 0 where
+pub record IsReaderOf {A : Type 0} (R : Form A) (f : Reader A) : Type 0 where
   pub found : (bytes : List ℕ) (x : A) (rest : List ℕ) → f bytes ≡ Ok (x, rest) → (front : List ℕ) × (bytes ≡ front ++ rest) × R front x
   pub only : (front : List ℕ) (x : A) (more : List ℕ) → R front x → f (front ++ more) ≡ Ok (x, more)
   pub stops : (bytes rest : List ℕ) → f bytes ≡ Err rest → Stops R f bytes rest
@@ -30,7 +30,7 @@ pub record Reads {A : Type 0} (R : Form A) (f : Reader A) : Type 0 where
 
 -- ---- the same form, written in two ways
 
-pub same_reads : {A : Type 0} {R : Form A} {f : Reader A} (R' : Form A) → Reads R f → ((bytes : List ℕ) (x : A) → R bytes x → R' bytes x) → ((bytes : List ℕ) (x : A) → R' bytes x → R bytes x) → Reads R' f
+pub same_reads : {A : Type 0} {R : Form A} {f : Reader A} (R' : Form A) → IsReaderOf R f → ((bytes : List ℕ) (x : A) → R bytes x → R' bytes x) → ((bytes : List ℕ) (x : A) → R' bytes x → R bytes x) → IsReaderOf R' f
 same_reads R' h to back = record {
   found = λ bytes x rest is. let p = h.found bytes x rest is in (p.0, p.1, to p.0 x p.2);
   only = λ front x more r. h.only front x more (back front x r);
@@ -42,7 +42,7 @@ same_reads R' h to back = record {
 
 -- ---- nothing, and what is made of a value
 
-pub nothing_reads : {A : Type 0} (x : A) → Reads (Nothing x) (λ bytes. Ok (x, bytes))
+pub nothing_reads : {A : Type 0} (x : A) → IsReaderOf (Nothing x) (λ bytes. Ok (x, bytes))
 nothing_reads {A} x = record {
   found = λ bytes y rest is.
       let pair : ◌≡◌ {A = A × List ℕ} (x, bytes) (y, rest) = cc in
@@ -52,7 +52,7 @@ nothing_reads {A} x = record {
   some = record { bytes = []; value = x; is = (refl, refl) };
 }
 
-module _ {A B : Type 0} (make : A → B) (R : Form A) (f : Reader A) (h : Reads R f) where
+module _ {A B : Type 0} (make : A → B) (R : Form A) (f : Reader A) (h : IsReaderOf R f) where
   made_found : (bytes : List ℕ) (o : Outcome A) → f bytes ≡ o → (y : B) (rest : List ℕ) → made make o ≡ Ok (y, rest) → (front : List ℕ) × (bytes ≡ front ++ rest) × Made make R front y
   made_found bytes (Err r) e y rest is = absurd (cc)
   made_found bytes (Ok p) e y rest is =
@@ -68,7 +68,7 @@ module _ {A B : Type 0} (make : A → B) (R : Form A) (f : Reader A) (h : Reads 
       let st = h.stops bytes rest (e ∙ ap Err same) in
       record { before = st.before; split = st.split; more = st.more; value = make st.value; goes_on = (st.value, st.goes_on, refl); dead = λ b behind other eq. ap (made make) (st.dead b behind other eq) }
 
-  pub made_reads : Reads (Made make R) (λ bytes. made make (f bytes))
+  pub made_reads : IsReaderOf (Made make R) (λ bytes. made make (f bytes))
   made_reads = record {
     found = λ bytes y rest is. made_found bytes (f bytes) refl y rest is;
     only = λ front y more r. ap (made make) (h.only front r.0 more r.1) ∙ ap (λ z. Ok (z, more)) (sym r.2);
@@ -78,8 +78,8 @@ module _ {A B : Type 0} (make : A → B) (R : Form A) (f : Reader A) (h : Reads 
 
 -- ---- one after the other
 
-module _ {A B : Type 0} (P : A → Type 0) (R : Form A) (f : Reader A) (S : A → Form B) (g : A → Reader B) (h : Reads R f)
-    (sure : (front : List ℕ) (x : A) → R front x → P x) (next : (x : A) → P x → Reads (S x) (g x)) where
+module _ {A B : Type 0} (P : A → Type 0) (R : Form A) (f : Reader A) (S : A → Form B) (g : A → Reader B) (h : IsReaderOf R f)
+    (sure : (front : List ℕ) (x : A) → R front x → P x) (next : (x : A) → P x → IsReaderOf (S x) (g x)) where
   abbrev both : Reader B
   both bytes = f bytes >>= λ x. g x.0 x.1
 
@@ -124,7 +124,7 @@ module _ {A B : Type 0} (P : A → Type 0) (R : Form A) (f : Reader A) (S : A �
             ∙ st.dead b behind other eq;
       }
 
-  pub then_reads : Reads (Then R S) (λ bytes. f bytes >>= λ x. g x.0 x.1)
+  pub then_reads : IsReaderOf (Then R S) (λ bytes. f bytes >>= λ x. g x.0 x.1)
   then_reads = record {
     found = λ bytes y rest is. then_found bytes (f bytes) refl y rest is;
     only = then_only;
@@ -163,7 +163,7 @@ module _ {A : Type 0} (meaning : ℕ → Option A) (sample : ℕ) (value : A) (g
             rw (ap meaning (sym head) ∙ parts.0) refl;
       }
 
-  pub byte_reads : Reads (ByteOf meaning) (one meaning)
+  pub byte_reads : IsReaderOf (ByteOf meaning) (one meaning)
   byte_reads = record {
     found = byte_found;
     only = λ front x more r. rw r.1 (rw r.2 refl);
@@ -209,7 +209,7 @@ module _ (count : ℕ) where
         dead = λ b behind other eq. absurd (let end : [] ≡ b ∷ behind = same ∙ eq in cc);
       }
 
-  pub bytes_reads : Reads (IsBytes count) (exactly count)
+  pub bytes_reads : IsReaderOf (IsBytes count) (exactly count)
   bytes_reads = record {
     found = λ bytes x rest is. bytes_found bytes _ refl x rest is;
     only = bytes_only;
@@ -219,7 +219,7 @@ module _ (count : ℕ) where
 
 -- ---- values one after another
 
-module _ {A : Type 0} (R : Form A) (f : Reader A) (h : Reads R f) where
+module _ {A : Type 0} (R : Form A) (f : Reader A) (h : IsReaderOf R f) where
   times_to : (count : ℕ) (bytes : List ℕ) (xs : List A) → Then R (λ x. Made (λ more. x ∷ more) (Times R count)) bytes xs → Times R (suc count) bytes xs
   times_to count bytes xs (x, a, b, split, r, (more, all, is)) = rw is (ap suc all.0, (a, b, split, r, all.1))
 
@@ -234,7 +234,7 @@ module _ {A : Type 0} (R : Form A) (f : Reader A) (h : Reads R f) where
   none_back bytes [] all = (all.1, refl)
   none_back bytes (x ∷ xs) all = absurd (omega (arith, all.0))
 
-  pub times_reads : (count : ℕ) → Reads (Times R count) (times f count)
+  pub times_reads : (count : ℕ) → IsReaderOf (Times R count) (times f count)
   unfolding times
   times_reads zero = same_reads (Times R zero) (nothing_reads []) none_to none_back
   times_reads (suc count) = same_reads (Times R (suc count)) (then_reads (λ x. Unit {0}) R f (λ x. Made (λ more. x ∷ more) (Times R count)) (λ x bytes. made (λ more. x ∷ more) (times f count bytes)) h (λ front x r. tt) (λ x p. made_reads (λ more. x ∷ more) (Times R count) (times f count) (times_reads count))) (times_to count) (times_back count)

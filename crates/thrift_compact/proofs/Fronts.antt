@@ -4,9 +4,9 @@ use Rattle.std.proofs.lemmas.List.{append-nil, append_cancel_right}
 use Rattle.std.proofs.Math.Seq.{take-append_seam}
 use Rattle.thrift_compact.specs.Grammar.{Form}
 use Rattle.thrift_compact.specs.Reading.{Outcome, Reader}
-use Rattle.thrift_compact.proofs.Forms.{Reads, Stops}
+use Rattle.thrift_compact.proofs.Forms.{IsReaderOf, Stops}
 
-module _ {A : Type 0} {R : Form A} {f : Reader A} (h : Reads R f) where
+module _ {A : Type 0} {R : Form A} {f : Reader A} (h : IsReaderOf R f) where
   pub rest_within : (bytes : List ℕ) (x : A) (rest : List ℕ) → f bytes ≡ Ok (x, rest) → length rest ≤ length bytes
   rest_within bytes x rest is =
       let found = h.found bytes x rest is in

@@ -17,7 +17,7 @@ use Rattle.thrift_compact.specs.declared.header.ListStart.{ListStart}
 use Rattle.thrift_compact.specs.declared.header.ListHeader.{ListHeader}
 use Rattle.thrift_compact.specs.declared.header.EntryKinds.{EntryKinds}
 use Rattle.thrift_compact.proofs.KindLaws.{IsAllowed, allowed_is, is_allowed, IsCode, code_range, kind_of-code, code-kind_of}
-use Rattle.thrift_compact.proofs.Forms.{Reads, same_reads, made_reads, nothing_reads, then_reads, byte_reads, ByteOf}
+use Rattle.thrift_compact.proofs.Forms.{IsReaderOf, same_reads, made_reads, nothing_reads, then_reads, byte_reads, ByteOf}
 use Rattle.thrift_compact.proofs.Numbers.{whole_reads, varint_reads}
 
 abbrev start_of : Option ℤ → Kind → FieldStart
@@ -29,13 +29,13 @@ header_of id kind = record { id = id; kind = kind }
 -- ---- the first byte of a field
 
 -- the id that it tells
-abbrev TellsId : ℤ → ℕ → Option ℤ → Type 0
-TellsId last b None = b / 16 ≡ 0
-TellsId last b (Some id) = (0 < b / 16) × (id ≡ last +ℤ pos (b / 16)) × (id ≤ℤ pos 32767)
+abbrev HasId : ℤ → ℕ → Option ℤ → Type 0
+HasId last b None = b / 16 ≡ 0
+HasId last b (Some id) = (0 < b / 16) × (id ≡ last +ℤ pos (b / 16)) × (id ≤ℤ pos 32767)
 
 record IsStart (left : ℕ) (last : ℤ) (b : ℕ) (s : FieldStart) : Type 0 where
   pub kind : IsAllowed left (b % 16) s.kind
-  pub id : TellsId last b s.id
+  pub id : HasId last b s.id
 
 id_is : (last : ℤ) (delta : ℕ) (id : ℤ) (test : Bool) → lt_z (pos 32767) (last +ℤ pos delta) ≡ test → id_after last delta ≡ Some id → (id ≡ last +ℤ pos delta) × (id ≤ℤ pos 32767)
 id_is last delta id true is found = absurd (let e : ◌≡◌ {A = Option ℤ} None (Some id) = rw is at found in cc)
@@ -100,18 +100,18 @@ abbrev AfterStart : Kind → Option ℤ → Form FieldHeader
 AfterStart k (Some id) = Nothing (header_of id k)
 AfterStart k None = Made (λ id. header_of id k) (IsWhole 16)
 
-after_start_reads : (k : Kind) (id : Option ℤ) → Reads (AfterStart k id) (header_id k id)
+after_start_reads : (k : Kind) (id : Option ℤ) → IsReaderOf (AfterStart k id) (header_id k id)
 after_start_reads k (Some id) = nothing_reads (header_of id k)
 after_start_reads k None = made_reads (λ id. header_of id k) (IsWhole 16) (whole 16) (whole_reads 16)
 
 module _ (left : ℕ) (last : ℤ) where
   field_header_by : (bytes : List ℕ) (h : FieldHeader) (s : FieldStart) (b : ℕ) (back : List ℕ) → bytes ≡ b ∷ back → IsStart left last b s → (id : Option ℤ) → s.id ≡ id → AfterStart s.kind id back h → IsFieldHeader left last bytes h
   field_header_by bytes h s b back split start None e (id, whole, is) =
-      let half : b / 16 ≡ 0 = let P : Option ℤ → Type 0 = TellsId last b in subst P e start.id in
+      let half : b / 16 ≡ 0 = let P : Option ℤ → Type 0 = HasId last b in subst P e start.id in
       let code : b ≡ code_of s.kind = omega (arith, start.kind.code) in
       rw is (inr (back, split ∙ ap (λ x. x ∷ back) code, whole), start.kind.stands)
   field_header_by bytes h s b back split start (Some id) e after =
-      let tells : TellsId last b (Some id) = let P : Option ℤ → Type 0 = TellsId last b in subst P e start.id in
+      let tells : HasId last b (Some id) = let P : Option ℤ → Type 0 = HasId last b in subst P e start.id in
       let code : b ≡ 16 * (b / 16) + code_of s.kind = omega (arith, start.kind.code) in
       let whole : bytes ≡ (16 * (b / 16) + code_of s.kind) ∷ [] = split ∙ ap (λ x. b ∷ x) after.0 ∙ ap (λ x. x ∷ []) code in
       rw after.1 (inl (b / 16, tells.0, whole, tells.1, tells.2), start.kind.stands)
@@ -127,7 +127,7 @@ module _ (left : ℕ) (last : ℤ) where
   field_header_back bytes h (inr (back, whole, id), stands) =
       (start_of None h.kind, code_of h.kind ∷ [], back, whole, (code_of h.kind, refl, long_start left last h.kind stands), (h.id, id, refl))
 
-  pub field_header_reads : Reads (IsFieldHeader left last) (field_header left last)
+  pub field_header_reads : IsReaderOf (IsFieldHeader left last) (field_header left last)
   field_header_reads = same_reads (IsFieldHeader left last)
       (then_reads (λ s. Unit {0}) (ByteOf (field_start left last)) (one (field_start left last)) (λ s. AfterStart s.kind s.id) (λ s bytes. header_id s.kind s.id bytes)
       (byte_reads (field_start left last) (code_of kind.True) (start_of None kind.True) (long_start left last kind.True refl)) (λ front s r. tt) (λ s p. after_start_reads s.kind s.id))
@@ -221,7 +221,7 @@ abbrev AfterListStart : ℕ → Kind → Option ℕ → Form ListHeader
 AfterListStart left k (Some size) = Nothing (list_header_of size k)
 AfterListStart left k None = Made (λ size. list_header_of size k) (IsVarint (size_width left k))
 
-after_list_start_reads : (left : ℕ) (k : Kind) (size : Option ℕ) → Reads (AfterListStart left k size) (list_size left k size)
+after_list_start_reads : (left : ℕ) (k : Kind) (size : Option ℕ) → IsReaderOf (AfterListStart left k size) (list_size left k size)
 after_list_start_reads left k (Some size) = nothing_reads (list_header_of size k)
 after_list_start_reads left k None = made_reads (λ size. list_header_of size k) (IsVarint (size_width left k)) (varint (size_width left k)) (varint_reads (size_width left k))
 
@@ -259,7 +259,7 @@ module _ (left : ℕ) where
   list_header_back bytes h (inr (back, whole, varint), holds) =
       (list_start_of None h.kind, (240 + code_of h.kind) ∷ [], back, whole, (240 + code_of h.kind, refl, long_list left h.kind), (h.size, size_back left h.kind back h.size varint holds, refl))
 
-  pub list_header_reads : Reads (IsListHeader left) (list_header left)
+  pub list_header_reads : IsReaderOf (IsListHeader left) (list_header left)
   list_header_reads = same_reads (IsListHeader left)
       (then_reads (λ s. Unit {0}) (ByteOf (list_start left)) (one (list_start left)) (λ s. AfterListStart left s.kind s.size) (λ s bytes. list_size left s.kind s.size bytes)
       (byte_reads (list_start left) (240 + code_of kind.True) (list_start_of None kind.True) (long_list left kind.True)) (λ front s r. tt) (λ s p. after_list_start_reads left s.kind s.size))
@@ -295,7 +295,7 @@ two_kinds left key value stands also =
     let second : allowed left (kind_of ((16 * code_of key + code_of value) % 16)) ≡ Some value = is_allowed left _ value (record { code = omega (arith, range.high); stands = also }) in
     ap (λ o. entry_by_kinds o (allowed left (kind_of ((16 * code_of key + code_of value) % 16)))) first ∙ ap (λ o. entry_by_kinds (Some key) o) second
 
-pub entry_kinds_reads : (left : ℕ) → Reads (IsEntryKinds left) (one (entry_kinds left))
+pub entry_kinds_reads : (left : ℕ) → IsReaderOf (IsEntryKinds left) (one (entry_kinds left))
 entry_kinds_reads left = same_reads (IsEntryKinds left) (byte_reads (entry_kinds left) (16 * code_of kind.True + code_of kind.True) (kinds_of kind.True kind.True) (two_kinds left kind.True kind.True refl refl))
     (λ bytes kinds r. let known = kinds_are left r.0 kinds r.2 in (r.1 ∙ ap (λ x. x ∷ []) (omega (arith, known.key.code, known.value.code)), known.key.stands, known.value.stands))
     (λ bytes kinds r. (16 * code_of kinds.key + code_of kinds.value, r.0, two_kinds left kinds.key kinds.value r.1 r.2))

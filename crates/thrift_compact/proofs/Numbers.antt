@@ -9,7 +9,7 @@ use Rattle.thrift_compact.specs.Values.{varint_byte}
 use Rattle.thrift_compact.specs.Reading.{made, one, varint_of, varint_on, varint, unzigzag, whole}
 use Rattle.thrift_compact.specs.declared.header.VarintByte.{VarintByte}
 use Rattle.thrift_compact.proofs.VarintLoop.{low_and_high}
-use Rattle.thrift_compact.proofs.Forms.{Reads, same_reads, made_reads, nothing_reads, then_reads, byte_reads, ByteOf}
+use Rattle.thrift_compact.proofs.Forms.{IsReaderOf, same_reads, made_reads, nothing_reads, then_reads, byte_reads, ByteOf}
 
 abbrev byte_of : ℕ → Bool → VarintByte
 byte_of low more = record { low = low; more = more }
@@ -136,17 +136,17 @@ passed room width front byte r =
     let known = means width (ltb 0 room) r.0 byte r.2 in
     record { below = known.below; more = λ e. ltb-true 0 room (known.more e).1 }
 
-after_reads : (room width low : ℕ) (more : Bool) → (more ≡ true → Reads (Uleb room (width - 7)) (varint_of room (width - 7)))
-    → Reads {A = ℕ} (λ bytes number. elim more as (λ _. Type 0) [ true ↦ Made (λ high. low + 128 * high) (Uleb room (width - 7)) bytes number | false ↦ Nothing low bytes number ]) (λ bytes. if more then made (λ high. low + 128 * high) (varint_of room (width - 7) bytes) else Ok (low, bytes))
+after_reads : (room width low : ℕ) (more : Bool) → (more ≡ true → IsReaderOf (Uleb room (width - 7)) (varint_of room (width - 7)))
+    → IsReaderOf {A = ℕ} (λ bytes number. elim more as (λ _. Type 0) [ true ↦ Made (λ high. low + 128 * high) (Uleb room (width - 7)) bytes number | false ↦ Nothing low bytes number ]) (λ bytes. if more then made (λ high. low + 128 * high) (varint_of room (width - 7) bytes) else Ok (low, bytes))
 after_reads room width low true behind = made_reads (λ high. low + 128 * high) (Uleb room (width - 7)) (varint_of room (width - 7)) (behind refl)
 after_reads room width low false behind = nothing_reads low
 
-uleb_reads : (room width : ℕ) → Reads (Uleb (suc room) width) (varint_of (suc room) width)
+uleb_reads : (room width : ℕ) → IsReaderOf (Uleb (suc room) width) (varint_of (suc room) width)
 unfolding varint_of
 uleb_reads zero width = same_reads (Uleb 1 width) (then_reads (Passed 0 width) (ByteOf (varint_byte width (ltb 0 0))) (one (varint_byte width (ltb 0 0))) (After 0 width) (λ byte bytes. varint_on byte (varint_of 0 (width - 7)) bytes) (byte_reads (varint_byte width (ltb 0 0)) 0 (byte_of 0 false) (byte_last width (ltb 0 0) 0 (omega arith) (pow_pos width))) (passed 0 width) (λ byte p. after_reads 0 width byte.low byte.more (λ e. absurd (omega (arith, p.more e))))) (uleb_to 0 width) (uleb_back 0 width)
 uleb_reads (suc room) width = same_reads (Uleb (suc (suc room)) width) (then_reads (Passed (suc room) width) (ByteOf (varint_byte width (ltb 0 (suc room)))) (one (varint_byte width (ltb 0 (suc room)))) (After (suc room) width) (λ byte bytes. varint_on byte (varint_of (suc room) (width - 7)) bytes) (byte_reads (varint_byte width (ltb 0 (suc room))) 0 (byte_of 0 false) (byte_last width (ltb 0 (suc room)) 0 (omega arith) (pow_pos width))) (passed (suc room) width) (λ byte p. after_reads (suc room) width byte.low byte.more (λ e. uleb_reads room (width - 7)))) (uleb_to (suc room) width) (uleb_back (suc room) width)
 
-pub varint_reads : (width : ℕ) → Reads (IsVarint width) (varint width)
+pub varint_reads : (width : ℕ) → IsReaderOf (IsVarint width) (varint width)
 varint_reads width = same_reads (IsVarint width) (uleb_reads 9 width) (λ bytes n is. record { uleb = is.uleb; short = is.short; fits = is.fits }) (λ bytes n is. record { uleb = is.uleb; short = is.short; fits = is.fits })
 
 -- ---- zigzag
@@ -167,7 +167,7 @@ unzigzag-zigzag (negsuc n) =
     let odd : (2 * n + 1) % 2 ≡ 1 = omega arith in
     rw odd (ap negsuc (omega arith))
 
-pub whole_reads : (width : ℕ) → Reads (IsWhole width) (whole width)
+pub whole_reads : (width : ℕ) → IsReaderOf (IsWhole width) (whole width)
 whole_reads width = same_reads (IsWhole width) (made_reads unzigzag (IsVarint width) (varint width) (varint_reads width))
     (λ bytes z is. subst (λ n. IsVarint width bytes n) (sym (ap zigzag is.2 ∙ zigzag-unzigzag is.0)) is.1)
     (λ bytes z is. (zigzag z, is, sym (unzigzag-zigzag z)))

@@ -1,6 +1,10 @@
 -- Equations of the readers' combinators.
-use Rattle.std.proofs.Common.{◌≡◌, ℕ, List, [], ◌∷◌, Option, Some, None, Ok, Err, refl, sym, ap}
+use Rattle.std.proofs.Common.{◌≡◌, ℕ, List, [], ◌∷◌, ◌++◌, Option, Some, None, Ok, Err, refl, sym, ap}
 use Rattle.thrift_compact.specs.Reading.{Outcome, made, accepted, one}
+
+-- what was found before, joined to what is read behind it
+abbrev pub joined : {A : Type 0} → List A → Outcome (List A) → Outcome (List A)
+joined before read = made (λ more. before ++ more) read
 
 -- two ways to make the value
 pub made-ext : {A B : Type 0} (f g : A → B) → ((x : A) → f x ≡ g x) → (o : Outcome A) → made f o ≡ made g o

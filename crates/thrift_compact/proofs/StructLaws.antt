@@ -5,16 +5,16 @@ use Rattle.std.proofs.lemmas.Bool.{cases_order}
 use Rattle.std.proofs.Math.Seq.{take-add}
 use Rattle.thrift_compact.specs.Grammar.{IsValue, IsStruct}
 use Rattle.thrift_compact.specs.Reading.{Outcome, value, struct_fields, placed, read}
-use Rattle.thrift_compact.specs.Gives.{Reads as Found}
-use Rattle.thrift_compact.specs.Places.{IsFront, IsPlace, IsRead}
+use Rattle.thrift_compact.specs.Gives.{Gives}
+use Rattle.thrift_compact.specs.Places.{IsFront, IsPlace}
 use Rattle.thrift_compact.specs.declared.tree.Field.{Field}
 use Rattle.thrift_compact.specs.declared.fault.ThriftFault.{ThriftFault}
 use Rattle.thrift_compact.specs.declared.fault.ThriftFault.TheVariants as fault
-use Rattle.thrift_compact.proofs.Forms.{Reads}
+use Rattle.thrift_compact.proofs.Forms.{IsReaderOf}
 use Rattle.thrift_compact.proofs.Fronts.{rest_within, front_is, is_front, one_value, place_within, place_goes_on, place_ends}
 use Rattle.thrift_compact.proofs.ValueLaws.{value_reads, struct_reads}
 
-reads : Reads IsStruct struct_fields
+reads : IsReaderOf IsStruct struct_fields
 reads = struct_reads 63 (IsValue 63) (value 63) (value_reads 63) (pos 0)
 
 found_by : (bytes : List ℕ) (o : Outcome (List Field)) → struct_fields bytes ≡ o → (tree : List Field) (size : ℕ) → placed (length bytes) o ≡ Ok (tree, size) → IsFront bytes tree size
@@ -54,21 +54,16 @@ one_struct front other more rest x y is also same = one_value reads front other 
 
 -- ---- the same, of what a call gave
 
-pub call_found : (bytes : List ℕ) (result : Result (List Field × ℕ) ThriftFault) → Found (read bytes) result → IfOk result (λ found. IsFront bytes found.0 found.1)
+pub call_found : (bytes : List ℕ) (result : Result (List Field × ℕ) ThriftFault) → Gives (read bytes) result → IfOk result (λ found. IsFront bytes found.0 found.1)
 call_found bytes (Ok found) is = read_found bytes found.0 found.1 is
 call_found bytes (Err fault) is = tt
 
-pub call_only : (bytes : List ℕ) (result : Result (List Field × ℕ) ThriftFault) → Found (read bytes) result → (front : List ℕ) (tree : List Field) (more : List ℕ) → IsStruct front tree → bytes ≡ front ++ more → IsRead tree (length front) result
-call_only bytes (Ok found) is front tree more spelled split =
-    let both : ◌≡◌ {A = Result (List Field × ℕ) ℕ} (Ok found) (Ok (tree, length front)) = sym is ∙ ap read split ∙ read_only front tree more spelled in
-    let pair : ◌≡◌ {A = List Field × ℕ} found (tree, length front) = cc in
-    (ap (λ (q : List Field × ℕ). q.0) pair, ap (λ (q : List Field × ℕ). q.1) pair)
-call_only bytes (Err (fault.BadThrift at)) is front tree more spelled split =
-    let both : ◌≡◌ {A = Result (List Field × ℕ) ℕ} (Err at) (Ok (tree, length front)) = sym is ∙ ap read split ∙ read_only front tree more spelled in
-    absurd (cc)
+pub call_only : (bytes : List ℕ) (result : Result (List Field × ℕ) ThriftFault) → Gives (read bytes) result → (front : List ℕ) (tree : List Field) (more : List ℕ) → IsStruct front tree → bytes ≡ front ++ more → Gives (Ok (tree, length front)) result
+call_only bytes (Ok found) is front tree more spelled split = sym (read_only front tree more spelled) ∙ ap read (sym split) ∙ is
+call_only bytes (Err (fault.BadThrift at)) is front tree more spelled split = sym (read_only front tree more spelled) ∙ ap read (sym split) ∙ is
 call_only bytes (Err fault.Memory) is front tree more spelled split = tt
 
-pub call_place : (bytes : List ℕ) (result : Result (List Field × ℕ) ThriftFault) → Found (read bytes) result → (at : ℕ) → result ≡ Err (fault.BadThrift at) → IsPlace bytes at
+pub call_place : (bytes : List ℕ) (result : Result (List Field × ℕ) ThriftFault) → Gives (read bytes) result → (at : ℕ) → result ≡ Err (fault.BadThrift at) → IsPlace bytes at
 call_place bytes (Ok found) is at bad = absurd (cc)
 call_place bytes (Err (fault.BadThrift place)) is at bad = let same : place ≡ at = cc in read_place bytes at (is ∙ ap Err same)
 call_place bytes (Err fault.Memory) is at bad = absurd (cc)

@@ -7,14 +7,15 @@ use Rattle.std.proofs.lemmas.List.{append-nil, length_push, get_or_push}
 use Rattle.thrift_compact.specs.Values.{id_of}
 use Rattle.thrift_compact.specs.Grammar as g
 use Rattle.thrift_compact.specs.Reading as r
-use Rattle.thrift_compact.specs.Reading.{Outcome, Reader, ◌>>=◌, made, times, joined, is_end}
-use Rattle.thrift_compact.specs.Gives.{Gives}
+use Rattle.thrift_compact.specs.Reading.{Outcome, Reader, ◌>>=◌, made, times}
+use Rattle.thrift_compact.specs.Steps.{StepsTo, behind, is_end}
+use Rattle.thrift_compact.proofs.Steps.{joined}
 use Rattle.thrift_compact.specs.declared.fault.Fault.{Fault}
 use Rattle.thrift_compact.specs.declared.fault.Fault.TheVariants.{Memory, Refused}
 use Rattle.thrift_compact.specs.declared.kind.Kind.{Kind}
 use Rattle.thrift_compact.specs.declared.value.Value.{Value}
 use Rattle.thrift_compact.specs.declared.tree.Field.{Field}
-use Rattle.thrift_compact.proofs.Forms.{Reads}
+use Rattle.thrift_compact.proofs.Forms.{IsReaderOf}
 use Rattle.thrift_compact.proofs.FieldLaws.{Starts, shorter, all_ok, all_err, all_end}
 use Rattle.thrift_compact.proofs.ValueLaws.{value_reads, field_reads, field_starts}
 
@@ -38,7 +39,7 @@ module _ {A : Type 0} (f : Reader A) (count counter : ℕ) (total : Outcome (Lis
   pub turn : counter < count → (x : A) (rest : List ℕ) → f bytes ≡ Ok (x, rest) → total ≡ joined (so_far ++ (x ∷ [])) (times f (count - (counter + 1)) rest)
   turn below x rest is = opened below ∙ rw is (joined-more so_far x (times f (count - (counter + 1)) rest))
 
-  pub fails : counter < count → (e : Fault) (rest : List ℕ) → Gives (f bytes) (Err e) rest → Gives total (Err e) rest
+  pub fails : counter < count → (e : Fault) (rest : List ℕ) → StepsTo (f bytes) (Err e) rest → StepsTo total (Err e) rest
   fails below Refused rest is = opened below ∙ rw is refl
   fails below Memory rest is = is
 
@@ -64,7 +65,7 @@ module _ (left : ℕ) (last : ℤ) (total : Outcome (List Field)) (so_far : List
   abbrev reader : ℤ → Reader Field
   reader = r.field left (r.value left)
 
-  reads : (last : ℤ) → Reads (form last) (reader last)
+  reads : (last : ℤ) → IsReaderOf (form last) (reader last)
   reads = field_reads left (g.IsValue left) (r.value left) (value_reads left)
 
   starts : (last : ℤ) (front : List ℕ) (x : Field) → form last front x → Starts front
@@ -102,28 +103,28 @@ module _ (left : ℕ) (last : ℤ) (total : Outcome (List Field)) (so_far : List
   field_fails_at (b ∷ t) e open_yet rest is =
       more ∙ ap (λ z. joined so_far (r.fields left (r.value left) last z)) e ∙ ap (joined so_far) (all_err form reader reads starts last b t rest open_yet is)
 
-  pub field_fails : is_end bytes ≡ false → (e : Fault) (rest : List ℕ) → Gives (reader last bytes) (Err e) rest → Gives total (Err e) rest
+  pub field_fails : is_end bytes ≡ false → (e : Fault) (rest : List ℕ) → StepsTo (reader last bytes) (Err e) rest → StepsTo total (Err e) rest
   field_fails open_yet Refused rest is = field_fails_at bytes refl open_yet rest is
   field_fails open_yet Memory rest is = is
 
-  fields_done_at : (all : List ℕ) → bytes ≡ all → is_end all ≡ true → total ≡ Ok (so_far, r.behind all)
+  fields_done_at : (all : List ℕ) → bytes ≡ all → is_end all ≡ true → total ≡ Ok (so_far, behind all)
   fields_done_at [] e closed = absurd (cc)
   fields_done_at (b ∷ t) e closed =
       more ∙ ap (λ z. joined so_far (r.fields left (r.value left) last z)) e ∙ ap (joined so_far) (all_end form reader reads starts last b t closed) ∙ ap (λ xs. Ok (xs, t)) (append-nil so_far)
 
-  pub fields_done : is_end bytes ≡ true → total ≡ Ok (so_far, r.behind bytes)
+  pub fields_done : is_end bytes ≡ true → total ≡ Ok (so_far, behind bytes)
   fields_done closed = fields_done_at bytes refl closed
 
 -- ---- values
 
-pub value_none : (left : ℕ) (k : Kind) (bytes rest : List ℕ) (result : Result Value Fault) → left ≡ 0 → Gives (r.scalar k bytes) result rest → Gives (r.value left k bytes) result rest
+pub value_none : (left : ℕ) (k : Kind) (bytes rest : List ℕ) (result : Result Value Fault) → left ≡ 0 → StepsTo (r.scalar k bytes) result rest → StepsTo (r.value left k bytes) result rest
 unfolding r.value
 value_none zero k bytes rest result none is = is
 value_none (suc left) k bytes rest result none is = absurd (omega arith)
 
-pub value_some : (left : ℕ) (k : Kind) (bytes rest : List ℕ) (result : Result Value Fault) → 0 < left → Gives (r.level (left - 1) (r.value (left - 1)) k bytes) result rest → Gives (r.value left k bytes) result rest
+pub value_some : (left : ℕ) (k : Kind) (bytes rest : List ℕ) (result : Result Value Fault) → 0 < left → StepsTo (r.level (left - 1) (r.value (left - 1)) k bytes) result rest → StepsTo (r.value left k bytes) result rest
 unfolding r.value
 value_some zero k bytes rest result some is = absurd (omega arith)
 value_some (suc left) k bytes rest result some is =
     let same : suc left - 1 ≡ left = omega arith in
-    subst (λ n. Gives (r.level n (r.value n) k bytes) result rest) same is
+    subst (λ n. StepsTo (r.level n (r.value n) k bytes) result rest) same is

@@ -15,7 +15,7 @@ use Rattle.thrift_compact.specs.declared.value.Value.{Value}
 use Rattle.thrift_compact.specs.declared.tree.Node.{Node}
 use Rattle.thrift_compact.specs.declared.tree.Node.TheVariants as n
 use Rattle.thrift_compact.specs.declared.tree.Field.{Field}
-use Rattle.thrift_compact.proofs.Forms.{Reads, same_reads, made_reads, nothing_reads, then_reads, byte_reads, bytes_reads, times_reads, ByteOf}
+use Rattle.thrift_compact.proofs.Forms.{IsReaderOf, same_reads, made_reads, nothing_reads, then_reads, byte_reads, bytes_reads, times_reads, ByteOf}
 use Rattle.thrift_compact.proofs.Numbers.{varint_reads, whole_reads}
 use Rattle.thrift_compact.proofs.KindLaws.{code_range}
 use Rattle.thrift_compact.proofs.Headers.{field_header_reads, list_header_reads, entry_kinds_reads}
@@ -37,18 +37,18 @@ truth_back bytes true is = (1, is, refl)
 truth_back bytes false (inl is) = (2, is, refl)
 truth_back bytes false (inr is) = (0, is, refl)
 
-truth_reads : Reads g.IsTruth (one truth_of)
+truth_reads : IsReaderOf g.IsTruth (one truth_of)
 truth_reads = same_reads g.IsTruth (byte_reads truth_of 1 true refl) (λ bytes t is. subst (λ z. g.IsTruth z t) (sym is.1) (truth_by is.0 t _ _ _ refl refl refl is.2)) truth_back
 
-signed_byte_reads : Reads g.IsSignedByte (one r.signed_byte)
+signed_byte_reads : IsReaderOf g.IsSignedByte (one r.signed_byte)
 signed_byte_reads = same_reads g.IsSignedByte (byte_reads r.signed_byte 0 (cast_signed w8 0) refl)
     (λ bytes z is. (is.0, is.1, let e : ◌≡◌ {A = Option ℤ} (Some (cast_signed w8 is.0)) (Some z) = is.2 in cc))
     (λ bytes z is. (is.0, is.1, ap Some (sym is.2)))
 
-binary_reads : Reads g.IsBinary r.binary
+binary_reads : IsReaderOf g.IsBinary r.binary
 binary_reads = then_reads (λ x. Unit {0}) (g.IsVarint 64) (r.varint 64) g.IsBytes r.exactly (varint_reads 64) (λ front x is. tt) (λ size p. bytes_reads size)
 
-scalar_reads : (k : Kind) → is_container k ≡ false → Reads (g.IsScalar k) (r.scalar k)
+scalar_reads : (k : Kind) → is_container k ≡ false → IsReaderOf (g.IsScalar k) (r.scalar k)
 scalar_reads kind.True h = made_reads (λ t. plain (n.Bool t)) g.IsTruth (one truth_of) truth_reads
 scalar_reads kind.False h = made_reads (λ t. plain (n.Bool t)) g.IsTruth (one truth_of) truth_reads
 scalar_reads kind.I8 h = made_reads (sized 8) g.IsSignedByte (one r.signed_byte) signed_byte_reads
@@ -80,12 +80,12 @@ field_starts left inner last front x (h, a, b, split, (inr (back, whole, id), st
 
 -- ---- values that hold others
 
-module _ (left : ℕ) (I : Kind → Form Value) (i : Kind → Reader Value) (reads : (k : Kind) → may_stand left k ≡ true → Reads (I k) (i k)) where
-  node_reads : (k : Kind) → may_stand left k ≡ true → Reads (g.IsNode (I k)) (r.node (i k))
+module _ (left : ℕ) (I : Kind → Form Value) (i : Kind → Reader Value) (reads : (k : Kind) → may_stand left k ≡ true → IsReaderOf (I k) (i k)) where
+  node_reads : (k : Kind) → may_stand left k ≡ true → IsReaderOf (g.IsNode (I k)) (r.node (i k))
   node_reads k stands = made_reads (λ v. v.node) (I k) (i k) (reads k stands)
 
   -- no elements are read where none may stand
-  no_elements : (k : Kind) → Reads (Times (g.IsNode (I k)) 0) (times (r.node (i k)) 0)
+  no_elements : (k : Kind) → IsReaderOf (Times (g.IsNode (I k)) 0) (times (r.node (i k)) 0)
   unfolding times
   no_elements k = same_reads (Times (g.IsNode (I k)) 0) (nothing_reads []) (λ bytes xs is. subst (λ z. Times (g.IsNode (I k)) 0 bytes z) (sym is.1) (refl, is.0)) back
     where
@@ -93,18 +93,18 @@ module _ (left : ℕ) (I : Kind → Form Value) (i : Kind → Reader Value) (rea
       back bytes [] is = (is.1, refl)
       back bytes (x ∷ xs) is = absurd (omega (arith, is.0))
 
-  elements_read : (k : Kind) (count : ℕ) → g.MayHold left k count → Reads (Times (g.IsNode (I k)) count) (times (r.node (i k)) count)
+  elements_read : (k : Kind) (count : ℕ) → g.MayHold left k count → IsReaderOf (Times (g.IsNode (I k)) count) (times (r.node (i k)) count)
   elements_read k count (inr stands) = times_reads (g.IsNode (I k)) (r.node (i k)) (node_reads k stands) count
-  elements_read k count (inl none) = subst (λ c. Reads (Times (g.IsNode (I k)) c) (times (r.node (i k)) c)) (sym none) (no_elements k)
+  elements_read k count (inl none) = subst (λ c. IsReaderOf (Times (g.IsNode (I k)) c) (times (r.node (i k)) c)) (sym none) (no_elements k)
 
-  list_reads : Reads (g.IsList left I) (r.list left i)
+  list_reads : IsReaderOf (g.IsList left I) (r.list left i)
   list_reads = then_reads (λ h. g.MayHold left h.kind h.size) (g.IsListHeader left) (r.list_header left)
       (λ h. Made (λ nodes. (nodes, list_width h.kind nodes)) (Times (g.IsNode (I h.kind)) h.size))
       (λ h bytes. made (λ nodes. (nodes, list_width h.kind nodes)) (times (r.node (i h.kind)) h.size bytes))
       (list_header_reads left) (λ front h is. is.1)
       (λ h holds. made_reads (λ nodes. (nodes, list_width h.kind nodes)) (Times (g.IsNode (I h.kind)) h.size) (times (r.node (i h.kind)) h.size) (elements_read h.kind h.size holds))
 
-  entry_reads : (k v : Kind) → may_stand left k ≡ true → may_stand left v ≡ true → Reads (g.IsEntry (g.IsNode (I k)) (g.IsNode (I v))) (r.entry (r.node (i k)) (r.node (i v)))
+  entry_reads : (k v : Kind) → may_stand left k ≡ true → may_stand left v ≡ true → IsReaderOf (g.IsEntry (g.IsNode (I k)) (g.IsNode (I v))) (r.entry (r.node (i k)) (r.node (i v)))
   entry_reads k v stands also = then_reads (λ x. Unit {0}) (g.IsNode (I k)) (r.node (i k)) (λ key. Made (λ value. (key, value)) (g.IsNode (I v))) (λ key bytes. made (λ value. (key, value)) (r.node (i v) bytes))
       (node_reads k stands) (λ front x is. tt) (λ key p. made_reads (λ value. (key, value)) (g.IsNode (I v)) (r.node (i v)) (node_reads v also))
 
@@ -112,7 +112,7 @@ module _ (left : ℕ) (I : Kind → Form Value) (i : Kind → Reader Value) (rea
     pub key : may_stand left kinds.key ≡ true
     pub value : may_stand left kinds.value ≡ true
 
-  entries_read : (count : ℕ) → Reads (g.IsEntries left I count) (r.entries left i count)
+  entries_read : (count : ℕ) → IsReaderOf (g.IsEntries left I count) (r.entries left i count)
   entries_read zero = nothing_reads []
   entries_read (suc more) = then_reads Stand (g.IsEntryKinds left) (one (entry_kinds left))
       (λ kinds. Times (g.IsEntry (g.IsNode (I kinds.key)) (g.IsNode (I kinds.value))) (suc more))
@@ -120,10 +120,10 @@ module _ (left : ℕ) (I : Kind → Form Value) (i : Kind → Reader Value) (rea
       (entry_kinds_reads left) (λ front kinds is. record { key = is.1; value = is.2 })
       (λ kinds stand. times_reads (g.IsEntry (g.IsNode (I kinds.key)) (g.IsNode (I kinds.value))) (r.entry (r.node (i kinds.key)) (r.node (i kinds.value))) (entry_reads kinds.key kinds.value stand.key stand.value) (suc more))
 
-  map_reads : Reads (g.IsMap left I) (r.map left i)
+  map_reads : IsReaderOf (g.IsMap left I) (r.map left i)
   map_reads = then_reads (λ x. Unit {0}) (g.IsVarint 64) (r.varint 64) (g.IsEntries left I) (r.entries left i) (varint_reads 64) (λ front x is. tt) (λ size p. entries_read size)
 
-  field_value_reads : (k : Kind) → may_stand left k ≡ true → Reads (g.IsFieldValue I k) (r.field_value i k)
+  field_value_reads : (k : Kind) → may_stand left k ≡ true → IsReaderOf (g.IsFieldValue I k) (r.field_value i k)
   field_value_reads kind.True stands = nothing_reads (plain (n.Bool true))
   field_value_reads kind.False stands = nothing_reads (plain (n.Bool false))
   field_value_reads kind.I8 stands = reads kind.I8 stands
@@ -137,16 +137,16 @@ module _ (left : ℕ) (I : Kind → Form Value) (i : Kind → Reader Value) (rea
   field_value_reads kind.Map stands = reads kind.Map stands
   field_value_reads kind.Struct stands = reads kind.Struct stands
 
-  pub field_reads : (last : ℤ) → Reads (g.IsField left I last) (r.field left i last)
+  pub field_reads : (last : ℤ) → IsReaderOf (g.IsField left I last) (r.field left i last)
   field_reads last = then_reads (λ h. may_stand left h.kind ≡ true) (g.IsFieldHeader left last) (r.field_header left last)
       (λ h. Made (field_of h.id) (g.IsFieldValue I h.kind)) (λ h bytes. made (field_of h.id) (r.field_value i h.kind bytes))
       (field_header_reads left last) (λ front h is. is.1)
       (λ h stands. made_reads (field_of h.id) (g.IsFieldValue I h.kind) (r.field_value i h.kind) (field_value_reads h.kind stands))
 
-  pub struct_reads : (last : ℤ) → Reads (g.IsFields (g.IsField left I) last) (r.fields left i last)
+  pub struct_reads : (last : ℤ) → IsReaderOf (g.IsFields (g.IsField left I) last) (r.fields left i last)
   struct_reads last = fields_read (g.IsField left I) (r.field left i) field_reads (field_starts left I) last
 
-  level_reads : (k : Kind) → Reads (g.IsLevel left I k) (r.level left i k)
+  level_reads : (k : Kind) → IsReaderOf (g.IsLevel left I k) (r.level left i k)
   level_reads kind.True = scalar_reads kind.True refl
   level_reads kind.False = scalar_reads kind.False refl
   level_reads kind.I8 = scalar_reads kind.I8 refl
@@ -169,7 +169,7 @@ stands_scalar k stands = by_test (is_container k) refl stands
     by_test false e h = e
     by_test true e h = absurd (omega (arith, ltb-true 0 0 h))
 
-pub value_reads : (left : ℕ) (k : Kind) → may_stand left k ≡ true → Reads (g.IsValue left k) (r.value left k)
+pub value_reads : (left : ℕ) (k : Kind) → may_stand left k ≡ true → IsReaderOf (g.IsValue left k) (r.value left k)
 unfolding g.IsValue r.value
 value_reads zero k stands = scalar_reads k (stands_scalar k stands)
 value_reads (suc left) k stands = level_reads left (g.IsValue left) (r.value left) (value_reads left) k

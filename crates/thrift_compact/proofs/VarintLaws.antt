@@ -6,7 +6,7 @@ use Rattle.std.specs.Prelude.{IfSome}
 use Rattle.thrift_compact.specs.Grammar.{IsVarint}
 use Rattle.thrift_compact.specs.Reading.{Outcome, varint, varint_found, first_varint}
 use Rattle.thrift_compact.specs.Places.{IsFrontVarint}
-use Rattle.thrift_compact.specs.Gives.{Finds}
+use Rattle.thrift_compact.specs.Steps.{StepsOnlyTo}
 use Rattle.thrift_compact.specs.declared.fault.Fault.{Fault}
 use Rattle.thrift_compact.specs.declared.fault.Fault.TheVariants.{Memory, Refused}
 use Rattle.thrift_compact.proofs.Fronts.{rest_within, front_is, is_front}
@@ -37,7 +37,7 @@ pub first_err : (bytes rest : List ℕ) → varint 64 bytes ≡ Err rest → fir
 unfolding first_varint
 first_err bytes rest is = ap (varint_found (length bytes)) is
 
-pub no_fault : (bytes cursor : List ℕ) → cursor ≡ bytes → (e : Fault) (rest : List ℕ) → Finds (varint 64 cursor) (Err e) rest → first_varint bytes ≡ None
+pub no_fault : (bytes cursor : List ℕ) → cursor ≡ bytes → (e : Fault) (rest : List ℕ) → StepsOnlyTo (varint 64 cursor) (Err e) rest → first_varint bytes ≡ None
 no_fault bytes cursor same Refused rest is = first_err bytes rest (ap (varint 64) (sym same) ∙ is)
 no_fault bytes cursor same Memory rest is = absurd is
 

@@ -5,7 +5,7 @@ use Rattle.std.proofs.Math.Nat.{mod-eq_of_lt}
 use Rattle.std.proofs.lemmas.Bool.{ltb-true, ltb-false}
 use Rattle.thrift_compact.specs.Values.{varint_byte}
 use Rattle.thrift_compact.specs.Reading.{Outcome, ◌>>=◌, made, one, varint_of, varint_on}
-use Rattle.thrift_compact.specs.Gives.{Finds}
+use Rattle.thrift_compact.specs.Steps.{StepsOnlyTo}
 use Rattle.thrift_compact.specs.declared.fault.Fault.{Fault}
 use Rattle.thrift_compact.specs.declared.fault.Fault.TheVariants.{Memory, Refused}
 use Rattle.thrift_compact.specs.declared.header.VarintByte.{VarintByte}
@@ -68,7 +68,7 @@ module _ (total : Outcome ℕ) (number index left width : ℕ) (bytes : List ℕ
   pub refused : (rest : List ℕ) → one (varint_byte left (ltb (index + 1) 10)) bytes ≡ Err rest → total ≡ Err rest
   refused rest is = opened ∙ rw is refl
 
-  pub fails : (rest : List ℕ) (e : Fault) → Finds (one (varint_byte left (ltb (index + 1) 10)) bytes) (Err e) rest → Finds total (Err e) rest
+  pub fails : (rest : List ℕ) (e : Fault) → StepsOnlyTo (one (varint_byte left (ltb (index + 1) 10)) bytes) (Err e) rest → StepsOnlyTo total (Err e) rest
   fails rest Refused is = refused rest is
   fails rest Memory is = absurd is
 

@@ -4,5 +4,6 @@ pub mod Grammar
 pub mod Reading
 pub mod Gives
 pub mod Places
+pub mod Steps
 pub mod Written
 pub mod Writable

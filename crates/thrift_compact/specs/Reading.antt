@@ -40,16 +40,6 @@ abbrev pub one : {A : Type 0} → (ℕ → Option A) → Reader A
 one meaning [] = Err []
 one meaning (b ∷ rest) = accepted (meaning b) (b ∷ rest) rest
 
--- the bytes behind the first
-abbrev pub behind : List ℕ → List ℕ
-behind [] = []
-behind (b ∷ rest) = rest
-
--- the byte 0 is next, which ends a struct
-abbrev pub is_end : List ℕ → Bool
-is_end [] = false
-is_end (b ∷ rest) = b == 0
-
 -- so many bytes; of fewer, each may stand
 abbrev pub exactly : ℕ → Reader (List ℕ)
 exactly n bytes = if nat_lt (length bytes) n then Err [] else Ok (take n bytes, drop n bytes)
@@ -58,10 +48,6 @@ exactly n bytes = if nat_lt (length bytes) n then Err [] else Ok (take n bytes, 
 unfoldable pub times : {A : Type 0} → Reader A → ℕ → Reader (List A)
 times f zero bytes = Ok ([], bytes)
 times f (suc n) bytes = f bytes >>= λ x. made (λ xs. x.0 ∷ xs) (times f n x.1)
-
--- what was found before, joined to what is read behind it
-abbrev pub joined : {A : Type 0} → List A → Outcome (List A) → Outcome (List A)
-joined before read = made (λ more. before ++ more) read
 
 -- ---- numbers
 

@@ -1,8 +1,8 @@
 // The bytes that are left to be read.
 ghost use Rattle.std.specs.Prelude.{◌≡◌, length};
 ghost use Rattle.thrift_compact.specs.Values.{truth_of, field_start, list_start, entry_kinds, varint_byte};
-ghost use Rattle.thrift_compact.specs.Reading.{one, exactly, signed_byte, is_end, behind};
-ghost use Rattle.thrift_compact.specs.Gives.{Finds, GivesBytes};
+ghost use Rattle.thrift_compact.specs.Reading.{one, exactly, signed_byte};
+ghost use Rattle.thrift_compact.specs.Steps.{StepsOnlyTo, StepsToBytes, is_end, behind};
 
 use crate::fault::Fault;
 use crate::header::{EntryKinds, FieldStart, ListStart, VarintByte};
@@ -57,7 +57,7 @@ impl<'a> Cursor<'a> {
     }
 
     pub(crate) fn varint_byte(&mut self, width: u32, may_go_on: bool) -> Result<VarintByte, Fault>
-        ensures { Finds (one (varint_byte width may_go_on) self.old) result self.new }
+        ensures { StepsOnlyTo (one (varint_byte width may_go_on) self.old) result self.new }
     {
         match self.rest {
             [byte, rest @ ..] => match VarintByte::from_byte(*byte, width, may_go_on) {
@@ -72,7 +72,7 @@ impl<'a> Cursor<'a> {
     }
 
     pub(crate) fn truth(&mut self) -> Result<bool, Fault>
-        ensures { Finds (one truth_of self.old) result self.new }
+        ensures { StepsOnlyTo (one truth_of self.old) result self.new }
     {
         match self.rest {
             [1, rest @ ..] => {
@@ -88,7 +88,7 @@ impl<'a> Cursor<'a> {
     }
 
     pub(crate) fn signed_byte(&mut self) -> Result<i64, Fault>
-        ensures { Finds (one signed_byte self.old) result self.new }
+        ensures { StepsOnlyTo (one signed_byte self.old) result self.new }
     {
         match self.rest {
             [byte, rest @ ..] => {
@@ -100,7 +100,7 @@ impl<'a> Cursor<'a> {
     }
 
     pub(crate) fn field_start(&mut self, last: i16, left: usize) -> Result<FieldStart, Fault>
-        ensures { Finds (one (field_start left last) self.old) result self.new }
+        ensures { StepsOnlyTo (one (field_start left last) self.old) result self.new }
     {
         match self.rest {
             [byte, rest @ ..] => match FieldStart::from_byte(*byte, last, left) {
@@ -115,7 +115,7 @@ impl<'a> Cursor<'a> {
     }
 
     pub(crate) fn list_start(&mut self, left: usize) -> Result<ListStart, Fault>
-        ensures { Finds (one (list_start left) self.old) result self.new }
+        ensures { StepsOnlyTo (one (list_start left) self.old) result self.new }
     {
         match self.rest {
             [byte, rest @ ..] => match ListStart::from_byte(*byte, left) {
@@ -130,7 +130,7 @@ impl<'a> Cursor<'a> {
     }
 
     pub(crate) fn entry_kinds(&mut self, left: usize) -> Result<EntryKinds, Fault>
-        ensures { Finds (one (entry_kinds left) self.old) result self.new }
+        ensures { StepsOnlyTo (one (entry_kinds left) self.old) result self.new }
     {
         match self.rest {
             [byte, rest @ ..] => match EntryKinds::from_byte(*byte, left) {
@@ -146,7 +146,7 @@ impl<'a> Cursor<'a> {
 
     /// So many bytes. Where there are fewer, the cursor is left at the end.
     pub(crate) fn bytes(&mut self, count: u64) -> Result<&'a [u8], Fault>
-        ensures { GivesBytes (exactly count self.old) result self.new }
+        ensures { StepsToBytes (exactly count self.old) result self.new }
     {
         if count > self.rest.len() as u64 {
             self.rest = &[];

@@ -3,7 +3,7 @@ ghost use Rattle.std.specs.Prelude.{◌≡◌, ℕ, ◌^◌, ◌<◌, ◌≤◌,
 ghost use Rattle.thrift_compact.specs.Grammar.{IsVarint};
 ghost use Rattle.thrift_compact.specs.Reading.{varint, whole, unzigzag, first_varint};
 ghost use Rattle.thrift_compact.specs.Places.{IsFrontVarint};
-ghost use Rattle.thrift_compact.specs.Gives.{Finds};
+ghost use Rattle.thrift_compact.specs.Steps.{StepsOnlyTo};
 
 use crate::cursor::Cursor;
 use crate::fault::Fault;
@@ -14,7 +14,7 @@ const MAX_BYTES: u32 = 10;
 /// A varint below 2 to the width. A bit at or past the width is refused at its byte.
 pub(crate) fn varint(cursor: &mut Cursor<'_>, width: u32) -> Result<u64, Fault>
     requires { width ≤ 64 }
-    ensures number { Finds (varint width cursor.old) result cursor.new }
+    ensures number { StepsOnlyTo (varint width cursor.old) result cursor.new }
     ensures below { IfOk result (λ n. n < 2 ^ width) }
 {
     let mut number: u64 = 0;
@@ -41,14 +41,14 @@ fn unzigzag(code: u64) -> i64
 /// A zigzag varint of so many bits.
 pub(crate) fn whole(cursor: &mut Cursor<'_>, width: u32) -> Result<i64, Fault>
     requires { width ≤ 64 }
-    ensures number { Finds (whole width cursor.old) result cursor.new }
+    ensures number { StepsOnlyTo (whole width cursor.old) result cursor.new }
 {
     Ok(unzigzag(varint(cursor, width)?))
 }
 
 /// An id that stands behind a field's first byte.
 pub(crate) fn id(cursor: &mut Cursor<'_>) -> Result<i16, Fault>
-    ensures { Finds (whole 16 cursor.old) result cursor.new }
+    ensures { StepsOnlyTo (whole 16 cursor.old) result cursor.new }
 {
     let code = varint(cursor, 16)?;
     Ok(unzigzag(code) as i16)

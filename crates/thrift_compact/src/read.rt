@@ -2,8 +2,9 @@
 ghost use Rattle.std.specs.Prelude.{◌≡◌, ℕ, pos, List, ◌++◌, length, IfOk};
 ghost use Rattle.thrift_compact.specs.Grammar.{IsStruct};
 ghost use Rattle.thrift_compact.specs.Reading as spec;
-ghost use Rattle.thrift_compact.specs.Places.{IsFront, IsPlace, IsRead};
-ghost use Rattle.thrift_compact.specs.Gives.{Gives, Finds, Reads};
+ghost use Rattle.thrift_compact.specs.Places.{IsFront, IsPlace};
+ghost use Rattle.thrift_compact.specs.Gives.{Gives};
+ghost use Rattle.thrift_compact.specs.Steps.{StepsTo, StepsOnlyTo};
 ghost use Rattle.thrift_compact.specs.declared.tree.Field.{Field as AField};
 
 use crate::cursor::Cursor;
@@ -20,7 +21,7 @@ use std::alloc::Global;
 const MAX_INNER: usize = 63;
 
 fn double(cursor: &mut Cursor<'_>) -> Result<[u8; 8], Fault>
-    ensures { Finds (spec.exactly 8 cursor.old) result cursor.new }
+    ensures { StepsOnlyTo (spec.exactly 8 cursor.old) result cursor.new }
 {
     let bytes = cursor.bytes(8)?;
     match <[u8; 8]>::try_from(bytes) {
@@ -30,7 +31,7 @@ fn double(cursor: &mut Cursor<'_>) -> Result<[u8; 8], Fault>
 }
 
 fn binary(alloc: Global, cursor: &mut Cursor<'_>) -> Result<Blob, Fault>
-    ensures { Gives (spec.binary cursor.old) result cursor.new }
+    ensures { StepsTo (spec.binary cursor.old) result cursor.new }
 {
     let size = varint(cursor, 64)?;
     let bytes = cursor.bytes(size)?;
@@ -39,7 +40,7 @@ fn binary(alloc: Global, cursor: &mut Cursor<'_>) -> Result<Blob, Fault>
 
 /// An element of a type whose values hold no others.
 fn scalar(alloc: Global, cursor: &mut Cursor<'_>, kind: Kind) -> Result<Value, Fault>
-    ensures { Gives (spec.scalar kind cursor.old) result cursor.new }
+    ensures { StepsTo (spec.scalar kind cursor.old) result cursor.new }
 {
     match kind {
         Kind::True | Kind::False => Ok(Value::plain(Node::Bool(cursor.truth()?))),
@@ -54,7 +55,7 @@ fn scalar(alloc: Global, cursor: &mut Cursor<'_>, kind: Kind) -> Result<Value, F
 }
 
 fn list_header(cursor: &mut Cursor<'_>, left: usize) -> Result<ListHeader, Fault>
-    ensures { Finds (spec.list_header left cursor.old) result cursor.new }
+    ensures { StepsOnlyTo (spec.list_header left cursor.old) result cursor.new }
 {
     let start = cursor.list_start(left)?;
     let kind = start.kind;
@@ -69,7 +70,7 @@ fn list_header(cursor: &mut Cursor<'_>, left: usize) -> Result<ListHeader, Fault
 }
 
 fn field_header(cursor: &mut Cursor<'_>, left: usize, last: i16) -> Result<FieldHeader, Fault>
-    ensures { Finds (spec.field_header left last cursor.old) result cursor.new }
+    ensures { StepsOnlyTo (spec.field_header left last cursor.old) result cursor.new }
 {
     let start = cursor.field_start(last, left)?;
     let kind = start.kind;
@@ -84,7 +85,7 @@ fn field_header(cursor: &mut Cursor<'_>, left: usize, last: i16) -> Result<Field
 
 #[cycle(value)]
 fn element(alloc: Global, cursor: &mut Cursor<'_>, left: usize, kind: Kind) -> Result<Node, Fault>
-    ensures { Gives (spec.node (spec.value left kind) cursor.old) result cursor.new }
+    ensures { StepsTo (spec.node (spec.value left kind) cursor.old) result cursor.new }
 {
     let value = value(alloc, cursor, left, kind)?;
     Ok(value.node)
@@ -98,7 +99,7 @@ fn elements(
     left: usize,
     header: ListHeader,
 ) -> Result<Nodes, Fault>
-    ensures { Gives (spec.times (spec.node (spec.value left header.kind)) header.size cursor.old)
+    ensures { StepsTo (spec.times (spec.node (spec.value left header.kind)) header.size cursor.old)
         result cursor.new }
 {
     let mut nodes = Items::new(alloc);
@@ -111,7 +112,7 @@ fn elements(
 /// A list or a set, as its elements and their width.
 #[cycle(value)]
 fn list(alloc: Global, cursor: &mut Cursor<'_>, left: usize) -> Result<(Nodes, u8), Fault>
-    ensures { Gives (spec.list left (spec.value left) cursor.old) result cursor.new }
+    ensures { StepsTo (spec.list left (spec.value left) cursor.old) result cursor.new }
 {
     let header = list_header(cursor, left)?;
     let nodes = elements(alloc, cursor, left, header)?;
@@ -126,7 +127,7 @@ fn entry(
     left: usize,
     kinds: EntryKinds,
 ) -> Result<(Node, Node), Fault>
-    ensures { Gives (spec.entry (spec.node (spec.value left kinds.key))
+    ensures { StepsTo (spec.entry (spec.node (spec.value left kinds.key))
         (spec.node (spec.value left kinds.value)) cursor.old) result cursor.new }
 {
     let key = element(alloc, cursor, left, kinds.key)?;
@@ -142,7 +143,7 @@ fn entries(
     left: usize,
     size: u64,
 ) -> Result<NodePairs, Fault>
-    ensures { Gives (spec.entries left (spec.value left) size cursor.old) result cursor.new }
+    ensures { StepsTo (spec.entries left (spec.value left) size cursor.old) result cursor.new }
 {
     let mut pairs = Items::new(alloc);
     if size == 0 {
@@ -157,7 +158,7 @@ fn entries(
 
 #[cycle(value)]
 fn map(alloc: Global, cursor: &mut Cursor<'_>, left: usize) -> Result<NodePairs, Fault>
-    ensures { Gives (spec.map left (spec.value left) cursor.old) result cursor.new }
+    ensures { StepsTo (spec.map left (spec.value left) cursor.old) result cursor.new }
 {
     let size = varint(cursor, 64)?;
     entries(alloc, cursor, left, size)
@@ -171,7 +172,7 @@ fn field_value(
     left: usize,
     kind: Kind,
 ) -> Result<Value, Fault>
-    ensures { Gives (spec.field_value (spec.value left) kind cursor.old) result cursor.new }
+    ensures { StepsTo (spec.field_value (spec.value left) kind cursor.old) result cursor.new }
 {
     match kind {
         Kind::True => Ok(Value::plain(Node::Bool(true))),
@@ -183,7 +184,7 @@ fn field_value(
 /// The field behind these.
 #[cycle(value)]
 fn field(alloc: Global, cursor: &mut Cursor<'_>, left: usize, before: &Tree) -> Result<Field, Fault>
-    ensures { Gives (spec.field left (spec.value left) (spec.last_id before.now) cursor.old)
+    ensures { StepsTo (spec.field left (spec.value left) (spec.last_id before.now) cursor.old)
         result cursor.new }
 {
     let header = field_header(cursor, left, last_id(before.as_slice()))?;
@@ -198,7 +199,7 @@ fn field(alloc: Global, cursor: &mut Cursor<'_>, left: usize, before: &Tree) -> 
 /// The fields of a struct, up to the byte 0 that ends it.
 #[cycle(value)]
 fn fields(alloc: Global, cursor: &mut Cursor<'_>, left: usize) -> Result<Tree, Fault>
-    ensures { Gives (spec.fields left (spec.value left) (pos 0) cursor.old) result cursor.new }
+    ensures { StepsTo (spec.fields left (spec.value left) (pos 0) cursor.old) result cursor.new }
 {
     let mut fields = Items::new(alloc);
     'fields: while !cursor.is_end() {
@@ -216,7 +217,7 @@ fn container(
     left: usize,
     kind: Kind,
 ) -> Result<Value, Fault>
-    ensures { Gives (spec.level left (spec.value left) kind cursor.old) result cursor.new }
+    ensures { StepsTo (spec.level left (spec.value left) kind cursor.old) result cursor.new }
 {
     match kind {
         Kind::List => {
@@ -242,7 +243,7 @@ fn container(
 /// An element of the type, where so many structs, lists, sets and maps may still be opened.
 #[cycle(value)]
 fn value(alloc: Global, cursor: &mut Cursor<'_>, left: usize, kind: Kind) -> Result<Value, Fault>
-    ensures { Gives (spec.value left kind cursor.old) result cursor.new }
+    ensures { StepsTo (spec.value left kind cursor.old) result cursor.new }
 {
     if left == 0 {
         return scalar(alloc, cursor, kind);
@@ -252,7 +253,7 @@ fn value(alloc: Global, cursor: &mut Cursor<'_>, left: usize, kind: Kind) -> Res
 
 /// The struct at the front, or the place of the fault.
 fn read_front(alloc: Global, bytes: &[u8]) -> Result<(Tree, usize), ThriftFault>
-    ensures { Reads (spec.read bytes.now) result }
+    ensures { Gives (spec.read bytes.now) result }
 {
     let mut cursor = Cursor::new(bytes);
     match fields(alloc, &mut cursor, MAX_INNER) {
@@ -272,12 +273,12 @@ fn read_front(alloc: Global, bytes: &[u8]) -> Result<(Tree, usize), ThriftFault>
 /// the bytes end before.
 pub fn read_struct(alloc: Global, bytes: &[u8]) -> Result<(Tree, usize), ThriftFault>
     // The struct, or the first fault, as a function of the bytes.
-    ensures read { Reads (spec.read bytes.now) result }
+    ensures read { Gives (spec.read bytes.now) result }
     // What is read is spelled so.
     ensures found { IfOk result (λ found. IsFront bytes.now found.0 found.1) }
     // What is spelled so is read, whatever follows it.
     ensures only { (front : List ℕ) (tree : List AField) (more : List ℕ) → IsStruct front tree
-        → bytes.now ≡ front ++ more → IsRead tree (length front) result }
+        → bytes.now ≡ front ++ more → Gives (Ok (tree, length front)) result }
     // No struct goes on with the byte at the place, and the bytes before it go on to one.
     ensures place { (at : ℕ) → result ≡ Err (ThriftFault.BadThrift at) → IsPlace bytes.now at }
 {

@@ -18,7 +18,7 @@ pub type Tree = Items<Field>;
 
 /// A field of a struct.
 #[cycle(tree)]
-#[derive(Drop)]
+#[derive(Debug, Drop)]
 pub struct Field {
     /// The id. It may be 0 or negative.
     pub id: i16,
@@ -31,7 +31,7 @@ pub struct Field {
 
 /// A value.
 #[cycle(tree)]
-#[derive(Drop)]
+#[derive(Debug, Drop)]
 pub enum Node {
     /// A truth value.
     Bool(bool),

@@ -2,7 +2,7 @@
 ghost use Rattle.std.specs.Prelude.{◌≡◌, ℕ, List, [], ◌∷◌, ◌++◌, ◌-ℤ◌, length, map, OnOk, OnErr};
 ghost use Rattle.thrift_compact.specs.Grammar.{zigzag, IsStruct};
 ghost use Rattle.thrift_compact.specs.Reading.{last_id, read};
-ghost use Rattle.thrift_compact.specs.Places.{KeepsFront};
+ghost use Rattle.thrift_compact.specs.Steps.{KeepsFront};
 ghost use Rattle.thrift_compact.specs.Writable.{IsWritable};
 ghost use Rattle.thrift_compact.specs.Written as spec;
 

@@ -2,7 +2,7 @@ use Rattle.std.proofs.Common.{◌≡◌, ◌++◌, drop, take}
 use Rattle.std.specs.Prelude.{map}
 use Rattle.std.specs.List.{flat_map}
 use Rattle.thrift_compact.specs.Reading.{last_id}
-use Rattle.thrift_compact.specs.Places.{KeepsFront}
+use Rattle.thrift_compact.specs.Steps.{KeepsFront}
 use Rattle.thrift_compact.specs.Written as w
 use Rattle.thrift_compact.proofs.write.+write.Given as goal
 

@@ -1,5 +1,5 @@
 use Rattle.std.proofs.Common.{◌≡◌, ◌++◌}
-use Rattle.thrift_compact.specs.Places.{KeepsFront}
+use Rattle.thrift_compact.specs.Steps.{KeepsFront}
 use Rattle.thrift_compact.specs.Written as w
 use Rattle.thrift_compact.proofs.write.write_varint.Given as goal
 

@@ -2,16 +2,16 @@
 ghost use Rattle.std.specs.Prelude.{IfOk};
 ghost use Rattle.parquet_meta.specs.Writable.{IsWritableFooter};
 
-use crate::{
+use dm_types::Items;
+use parquet_meta::{
     Annotation, Footer, LeafSchema, Logical, MetaFault, PageHeader, PageV1, SharedBytes,
     read_footer, read_page_header, write_footer, write_page_header,
 };
-use dm_types::Items;
 use std::alloc::{AllocError, Global};
 use std::test::Fail;
 
 /// Footers, and what is kept of them.
-const FOOTERS: [(&[u8], &str); 6] = [
+const FOOTERS: &[(&[u8], &str)] = &[
     // An optional leaf of 32 bits, and a chunk.
     (
         b"\x15\x02\x19,H\x06schema\x15\x02\x00\x15\x02%\x02\x18\x01a\x00\x16\x06\x19\x1c\x19\x1c&\x00\x1c\x15\x02\x19%\x00\x06\x19\x18\x01a\x15\x00\x16\x06\x16P\x16P&\x08\x00\x00\x16P\x16\x06\x00\x00",
@@ -45,7 +45,7 @@ const FOOTERS: [(&[u8], &str); 6] = [
 ];
 
 /// Bytes that are no footer.
-const BAD_FOOTERS: [&[u8]; 47] = [
+const BAD_FOOTERS: &[&[u8]] = &[
     // No version.
     b"),H\x06schema\x15\x02\x00\x15\x02%\x02\x18\x01a\x00\x16\x06\x19\x1c\x19\x1c&\x00\x1c\x15\x02\x19%\x00\x06\x19\x18\x01a\x15\x00\x16\x06\x16P\x16P&\x08\x00\x00\x16P\x16\x06\x00\x00",
     // No schema.
@@ -143,7 +143,7 @@ const BAD_FOOTERS: [&[u8]; 47] = [
 ];
 
 /// Page headers, and what is kept of them.
-const HEADERS: [(&[u8], &str); 6] = [
+const HEADERS: &[(&[u8], &str)] = &[
     // A data page.
     (
         b"\x15\x00\x15\x16\x15\x16,\x15\x04\x15\x00\x15\x06\x15\x06\x00\x00",
@@ -177,7 +177,7 @@ const HEADERS: [(&[u8], &str); 6] = [
 ];
 
 /// Bytes at whose front no page header stands.
-const BAD_HEADERS: [&[u8]; 19] = [
+const BAD_HEADERS: &[&[u8]] = &[
     // No type.
     b"%\x16\x15\x16\x00",
     // No uncompressed_page_size.
@@ -218,16 +218,34 @@ const BAD_HEADERS: [&[u8]; 19] = [
     b"\x15\x00\x15\x02\x15\x02L\x15\x06\x15\x00\x15\x02\x00\x00",
 ];
 
+fn footer_text(alloc: Global, bytes: &[u8]) -> Result<String, MetaFault> {
+    let footer = read_footer(alloc, bytes)?;
+    Ok(format!(in alloc; "{footer:?}")?)
+}
+
+fn is_bad_footer(alloc: Global, bytes: &[u8]) -> bool {
+    matches!(read_footer(alloc, bytes), Err(MetaFault::BadFooter))
+}
+
+/// The page header at the front as a text, and its length.
+fn header_text(alloc: Global, bytes: &[u8]) -> Result<(String, usize), MetaFault> {
+    let (header, size) = read_page_header(alloc, bytes)?;
+    Ok((format!(in alloc; "{header:?}")?, size))
+}
+
+fn is_bad_header(alloc: Global, bytes: &[u8]) -> bool {
+    matches!(read_page_header(alloc, bytes), Err(MetaFault::BadFooter))
+}
+
 #[test]
 fn footers_are_read(rt: HostRuntime) -> Result<(), Fail> {
     let alloc = rt.alloc();
     for (bytes, shown) in FOOTERS {
-        let footer = read_footer(alloc, bytes)?;
-        let text = format!(in alloc; "{footer:?}")?;
-        assert_eq!(rt; text.as_str(), shown);
+        let text = footer_text(alloc, bytes)?;
+        assert_eq!(rt; text.as_str(), *shown);
         let mut longer = Vec::from_slice(alloc, bytes)?;
         longer.push(0)?;
-        assert!(rt; matches!(read_footer(alloc, &longer), Err(MetaFault::BadFooter)));
+        assert!(rt; is_bad_footer(alloc, &longer));
     }
     Ok(())
 }
@@ -235,8 +253,7 @@ fn footers_are_read(rt: HostRuntime) -> Result<(), Fail> {
 #[test]
 fn bad_footers_are_refused(rt: HostRuntime) {
     for bytes in BAD_FOOTERS {
-        let refused = matches!(read_footer(rt.alloc(), bytes), Err(MetaFault::BadFooter));
-        assert!(rt; refused, "{bytes:?}");
+        assert!(rt; is_bad_footer(rt.alloc(), bytes), "{bytes:?}");
     }
 }
 
@@ -246,16 +263,18 @@ fn page_headers_are_read(rt: HostRuntime) -> Result<(), Fail> {
     for (bytes, shown) in HEADERS {
         let mut longer = Vec::from_slice(alloc, bytes)?;
         longer.push(0xff)?;
-        let (header, size) = read_page_header(alloc, &longer)?;
-        let text = format!(in alloc; "{header:?}")?;
-        assert_eq!(rt; text.as_str(), shown);
+        let (text, size) = header_text(alloc, &longer)?;
+        assert_eq!(rt; text.as_str(), *shown);
         assert_eq!(rt; size, bytes.len());
     }
-    for bytes in BAD_HEADERS {
-        let refused = matches!(read_page_header(alloc, bytes), Err(MetaFault::BadFooter));
-        assert!(rt; refused, "{bytes:?}");
-    }
     Ok(())
+}
+
+#[test]
+fn bad_page_headers_are_refused(rt: HostRuntime) {
+    for bytes in BAD_HEADERS {
+        assert!(rt; is_bad_header(rt.alloc(), bytes), "{bytes:?}");
+    }
 }
 
 /// A footer of one leaf and no row group.
@@ -292,6 +311,31 @@ fn a_footer_is_written(rt: HostRuntime) -> Result<(), Fail> {
     let wanted: &[u8] =
         b"\x15\x02\x19,H\x06schema\x15\x02\x00\x15\x0e\x15\x06\x15\x02\x18\x01a%\x0a\x15\x04\x15\x0c\x15\x07\x1c\x8c,,\x00\x00\x00\x00\x00\x16\x00\x19\x0c(\x0adeltamerge\x00";
     assert_eq!(rt; out.as_slice(), wanted);
+    Ok(())
+}
+
+/// A footer of one group under a name of 512 KiB, and 65,536 leaves below it.
+fn long_footer(alloc: Global) -> Result<Vec<u8>, AllocError> {
+    let mut bytes = Vec::from_slice(
+        alloc,
+        b"\x15\x02\x19\xfc\x82\x80\x04H\x06schema\x15\x02\x005\x00\x18\x80\x80\x20",
+    )?;
+    bytes.extend_from_slice(&vec![in alloc; b'n'; 524_288]?)?;
+    bytes.extend_from_slice(b"\x15\x80\x80\x08\x00")?;
+    for _ in 0..65_536 {
+        bytes.extend_from_slice(b"\x15\x02%\x02\x18\x01a\x00")?;
+    }
+    bytes.extend_from_slice(b"\x16\x00\x19\x0c\x00")?;
+    Ok(bytes)
+}
+
+#[test]
+fn leaves_share_the_name_at_the_top(rt: HostRuntime) -> Result<(), Fail> {
+    let footer = read_footer(rt.alloc(), &long_footer(rt.alloc())?)?;
+    assert_eq!(rt; footer.leaves.len(), 65_536);
+    let last = footer.leaves.as_slice().last().ok_or("no leaf")?;
+    assert_eq!(rt; last.name.as_slice().len(), 524_288);
+    assert!(rt; !last.top);
     Ok(())
 }
 

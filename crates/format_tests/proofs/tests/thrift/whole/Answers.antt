@@ -2,8 +2,7 @@ use Rattle.std.proofs.Common.{◌≡◌, ◌∙◌, inl, inr, refl, sym, subst, 
 use Rattle.std.specs.Prelude.{FitsSigned}
 use Rattle.std.specs.Int.{w16, w32, w64}
 use Rattle.std.proofs.lemmas.Int.{to_z-of_z}
-use Rattle.thrift_compact.proofs.WritableLaws.{whole_writable}
-use Rattle.thrift_compact.proofs.tests.whole.Goals as goal
+use Rattle.format_tests.proofs.tests.thrift.whole.Goals as goal
 
 pub returns : goal.returns
 returns c = λ left.
@@ -11,5 +10,5 @@ returns c = λ left.
     let kept = to_z-of_z w64 c.from.result (record { sfits = c.from.type_inv }) in
     record {
       id = subst (λ (z : ℤ). FitsSigned w16 z) (sym (to_z-of_z w16 c.args.id c.ranges.id)) c.ranges.id;
-      value = whole_writable left 32 _ (inr (inr (inl (refl, subst (λ (z : ℤ). FitsSigned w32 z) (sym (kept ∙ same)) c.ranges.whole))));
+      value = c.writable_values.ensures.whole left 32 _ (inr (inr (inl (refl, subst (λ (z : ℤ). FitsSigned w32 z) (sym (kept ∙ same)) c.ranges.whole))));
     }
