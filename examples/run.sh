@@ -1,13 +1,23 @@
 #!/usr/bin/env bash
-# Proves and builds the program, unless that is done, and runs show.sql on the table beside it.
+# Runs a script, show.sql unless one is named, on copies of the tables beside this file.
+# Where `rt ci` has built the program, it is the proved one; else `rt try` runs it, and proves nothing.
 set -u
+script=$(realpath -- "${1:-$(dirname "${BASH_SOURCE[0]}")/show.sql}") || exit 2
 cd "$(dirname "${BASH_SOURCE[0]}")" || exit 2
-crate=../crates/deltamerge
+examples=$PWD
+crate=$examples/../crates/deltamerge
 
-# `rt run` builds the program and runs it: with a word that it doesn't take it only prints its usage.
-usage=$(cd "$crate" && rt run -- build </dev/null)
-if [[ $usage != usage:* ]]; then
-    echo "run.sh: the program wasn't built" >&2
-    exit 2
+if [[ -x $crate/out/deltamerge ]]; then
+    copies=$(mktemp -d) || exit 2
+    trap 'rm -rf "$copies"' EXIT
+    cp -r sales "$copies" && cd "$copies" || exit 2
+    "$crate/out/deltamerge" <"$script"
+    exit
 fi
-exec "$crate/out/deltamerge" <show.sql
+
+echo "run.sh: the program isn't built: it is tried without a proof ('rt ci' at the root proves and builds it)" >&2
+data=()
+while IFS= read -r file; do
+    data+=(--data "$file=$examples/$file")
+done < <(find sales -type f | sort)
+cd "$crate" && exec rt try "${data[@]}" <"$script"

@@ -1,0 +1,59 @@
+#!/usr/bin/env bash
+# Runs the program that `rt ci` built on real folders, and compares what it writes and how it ends.
+# Silent where all is as it must be.
+set -u
+cd "$(dirname "${BASH_SOURCE[0]}")" || exit 2
+examples=$PWD
+program=$examples/../crates/deltamerge/out/deltamerge
+folder=$(mktemp -d) || exit 2
+trap 'rm -rf "$folder"' EXIT
+cd "$folder" || exit 2
+failed=0
+
+differs() { # what was tried, what came
+    echo "check.sh: $1: $2" >&2
+    failed=1
+}
+
+# what is tried, the script, the text and the status that it must give
+runs() {
+    local text
+    text=$("$program" <<<"$2")
+    local status=$?
+    [[ $text == "$3" && $status == "$4" ]] || differs "$1" "status $status, written: $text"
+}
+
+log=_delta_log/00000000000000000000.json
+cp -r "$examples/sales" sales
+runs 'the example' "$(<"$examples/show.sql")" "$(<"$examples/show.expected")" 0
+runs 'the example of DELETE' "$(<"$examples/delete.sql")" "$(<"$examples/delete.expected")" 0
+
+runs 'no table' 'SHOW FILES t;' 'refused 1: O1' 1
+echo >plain
+runs 'a plain file for a table' 'SHOW FILES plain;' 'refused 1: O1' 1
+mkdir logless && echo >logless/_delta_log
+runs 'a plain file for a log folder' 'SHOW FILES logless;' 'refused 1: O1' 1
+mkdir -p "folders/$log"
+runs 'a folder among commit files' 'SHOW FILES folders;' 'refused 1: O1' 1
+mkdir -p bytes/_delta_log && : >"bytes/$log" && : >$'bytes/_delta_log/\xff'
+runs 'a name that is no UTF-8' 'SHOW FILES bytes;' '' 4
+
+"$program" <"$examples/show.sql" >&-
+status=$?
+[[ $status == 5 ]] || differs 'a closed standard output' "status $status"
+"$program" word >written </dev/null
+status=$?
+[[ $status == 2 && $(<written) == usage:* ]] || differs 'a word' "status $status"
+
+# Two programs at once: each adds a version, or finds that the other one did.
+cp -r "$examples/sales" both
+"$program" <<<'DELETE FROM both;' >first &
+"$program" <<<'DELETE FROM both;' >second
+wait
+added=$(cat first second | grep -c '^version [34]$')
+taken=$(cat first second | grep -c '^refused 1: S17 3$')
+commits=$(find both/_delta_log -name '*.json' | wc -l)
+[[ $((added + taken)) == 2 && $added -ge 1 && $commits == $((3 + added)) ]] ||
+    differs 'two programs at once' "$(cat first second), and $commits commit files"
+
+exit "$failed"
