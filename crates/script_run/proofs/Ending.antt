@@ -15,11 +15,12 @@ use Rattle.script_run.specs.declared.outcome.Due.TheVariants as due
 use Rattle.script_run.specs.declared.outcome.Outcome.{Outcome}
 use Rattle.script_run.specs.declared.status.Status.{Status}
 use Rattle.script_run.specs.declared.status.Status.TheVariants as status
-use Rattle.script_run.specs.Outcome.{ending, usage_line, refused_line, max_script, IsDueOf, usage, scripted, too_long}
+use Rattle.script_run.specs.Outcome.{ending, usage_line, refused_line, IsDueOf, usage, scripted, too_long}
 use Rattle.script_run.specs.declared.statement.Statement.{Statement}
 use Rattle.script_run.specs.Ran.{Ran, whole, line_cut, line_unwritten, ended, ran, unread, no_memory}
 use Rattle.script_run.specs.Reaching.{Reaches, EndsRun, RunsAll, status_of_fault}
 use Rattle.script_run.proofs.Turns.{appends_none, appends_same}
+use Rattle.script_run.specs.declared.runs.TheConstants.{MAX_SCRIPT}
 
 -- what the source told, or nothing
 known : Option (List ℕ) → List ℕ
@@ -47,16 +48,16 @@ due_usage (word ∷ words) left line empty is apart same = (known left, known_is
 long : (n : ℕ) → (bytes : List ℕ) × (n < length bytes)
 long n = (replicate (n + 1) 0, omega (arith, length-replicate {A = ℕ} (n + 1) 0))
 
-pub due_too_long : {W : Type 0} (words : List W) (left : Option (List ℕ)) (line : Outcome) → words ≡ [] → TakesAll max_script left (Err fault.TooLong) → line ≡ ending status.BadScript (refused_line 0 (80 ∷ 50 ∷ [])) → Reaches words left (Ok (due.Ends line))
-due_too_long words None line none over is = let some = long max_script in (some.0, tt, rw is (scripted (due.Ends (ending status.BadScript (refused_line 0 (80 ∷ 50 ∷ [])))) none (too_long some.0 some.1)))
+pub due_too_long : {W : Type 0} (words : List W) (left : Option (List ℕ)) (line : Outcome) → words ≡ [] → TakesAll MAX_SCRIPT left (Err fault.TooLong) → line ≡ ending status.BadScript (refused_line 0 (80 ∷ 50 ∷ [])) → Reaches words left (Ok (due.Ends line))
+due_too_long words None line none over is = let some = long MAX_SCRIPT in (some.0, tt, rw is (scripted (due.Ends (ending status.BadScript (refused_line 0 (80 ∷ 50 ∷ [])))) none (too_long some.0 some.1)))
 due_too_long words (Some bytes) line none over is = (bytes, refl, rw is (scripted (due.Ends (ending status.BadScript (refused_line 0 (80 ∷ 50 ∷ [])))) none (too_long bytes over)))
 
 taken_is : (limit : ℕ) (left : Option (List ℕ)) (script : List ℕ) → TakesAll limit left (Ok script) → IfSome left (λ bytes. script ≡ bytes)
 taken_is limit None script taken = tt
 taken_is limit (Some bytes) script taken = taken.0
 
-pub due_read : {W : Type 0} (words : List W) (left : Option (List ℕ)) (script text : List ℕ) (what : Due) → words ≡ [] → TakesAll max_script left (Ok script) → text ≡ script → IsDueOf text what → Reaches words left (Ok what)
-due_read words left script text what none taken is of_script = (script, taken_is max_script left script taken, scripted what none (subst (λ (s : List ℕ). IsDueOf s what) is of_script))
+pub due_read : {W : Type 0} (words : List W) (left : Option (List ℕ)) (script text : List ℕ) (what : Due) → words ≡ [] → TakesAll MAX_SCRIPT left (Ok script) → text ≡ script → IsDueOf text what → Reaches words left (Ok what)
+due_read words left script text what none taken is of_script = (script, taken_is MAX_SCRIPT left script taken, scripted what none (subst (λ (s : List ℕ). IsDueOf s what) is of_script))
 
 -- ---- the line that ends the run
 

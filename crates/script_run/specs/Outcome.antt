@@ -8,6 +8,7 @@ use Rattle.script_run.specs.declared.statement.Statement.{Statement}
 use Rattle.script_run.specs.declared.status.Status.{Status}
 use Rattle.script_run.specs.declared.status.Status.TheVariants as status
 use Rattle.script_run.specs.Script.{IsScript, IsNoScript}
+use Rattle.script_run.specs.declared.runs.TheConstants.{MAX_SCRIPT}
 
 abbrev pub ending : Status → List ℕ → Outcome
 ending status text = record { status = status; text = text }
@@ -19,18 +20,14 @@ usage_line = codes "usage: deltamerge [--root DIR] [--workload N]" ++ 10 ∷ []
 abbrev pub refused_line : ℕ → List ℕ → List ℕ
 refused_line number cause = codes "refused " ++ decimal number ++ codes ": " ++ cause ++ 10 ∷ []
 
--- the longest script
-abbrev pub max_script : ℕ
-max_script = 1048576
-
 -- what a script makes due
 pub data IsDueOf : List ℕ → Due → Type 0 where
   -- a longer script is refused before it is read for its grammar
-  too_long : (script : List ℕ) → max_script < length script → IsDueOf script (due.Ends (ending status.BadScript (refused_line 0 (codes "P2"))))
+  too_long : (script : List ℕ) → MAX_SCRIPT < length script → IsDueOf script (due.Ends (ending status.BadScript (refused_line 0 (codes "P2"))))
   -- a script that isn't in the grammar is refused with the place
-  bad : (script : List ℕ) (at : ℕ) → length script ≤ max_script → IsNoScript script at → IsDueOf script (due.Ends (ending status.BadScript (refused_line 0 (codes "P1 " ++ decimal at))))
+  bad : (script : List ℕ) (at : ℕ) → length script ≤ MAX_SCRIPT → IsNoScript script at → IsDueOf script (due.Ends (ending status.BadScript (refused_line 0 (codes "P1 " ++ decimal at))))
   -- a script of the grammar is run
-  good : (script : List ℕ) (statements : List Statement) → length script ≤ max_script → IsScript script statements → IsDueOf script (due.Runs statements)
+  good : (script : List ℕ) (statements : List Statement) → length script ≤ MAX_SCRIPT → IsScript script statements → IsDueOf script (due.Runs statements)
 
 -- what these words and this script make due: no words are accepted yet
 pub data IsDue {W : Type 0} (words : List W) (script : List ℕ) : Due → Type 0 where

@@ -7,9 +7,10 @@ use Rattle.script_run.specs.declared.status.Status.TheVariants as status
 use Rattle.script_run.specs.declared.outcome.Outcome.{Outcome}
 use Rattle.script_run.specs.declared.statement.Statement.{Statement}
 use Rattle.script_run.specs.declared.outcome.Due.TheVariants as due
-use Rattle.script_run.specs.Outcome.{IsDue, max_script}
+use Rattle.script_run.specs.Outcome.{IsDue}
 use Rattle.table_write.specs.Outside.{Outside}
 use Rattle.script_run.specs.Running.{Runs}
+use Rattle.script_run.specs.declared.runs.TheConstants.{MAX_SCRIPT}
 
 -- the number that a run returns
 abbrev pub code_of : Status → ℕ
@@ -42,6 +43,10 @@ pub record Counters : Type 0 where
   pub sink : ℕ
   pub source : ℕ
   pub names : ℕ
+
+-- the counts of the four objects
+abbrev pub counters : ℕ → ℕ → ℕ → ℕ → Counters
+counters store sink source names = record { store = store; sink = sink; source = source; names = names }
 
 -- a failure is told only where its object's count rose, and every other count is as at entry
 abbrev pub Blames : Status → Counters → Counters → Type 0
@@ -88,7 +93,7 @@ abbrev pub ReadsSource : Status → Option (List ℕ) → Option (List ℕ) → 
 ReadsSource status.Done old new = IsAtEnd new
 ReadsSource status.Refused old new = IsAtEnd new
 ReadsSource status.BadWords old new = new ≡ old
-ReadsSource status.BadScript old new = IfSome old (λ bytes. length bytes ≤ max_script → IsAtEnd new)
+ReadsSource status.BadScript old new = IfSome old (λ bytes. length bytes ≤ MAX_SCRIPT → IsAtEnd new)
 ReadsSource status.StoreFailed old new = IsAtEnd new
 ReadsSource status.SinkFailed old new = ⊤
 ReadsSource status.SourceFailed old new = ⊤

@@ -5,6 +5,8 @@ use Rattle.dm_types.specs.declared.refusal.Counted.{Counted}
 use Rattle.dm_types.specs.declared.refusal.Counted.TheVariants as counted
 use Rattle.dm_types.specs.declared.refusal.Refused.{Refused}
 use Rattle.dm_types.specs.declared.refusal.Refused.TheVariants as refused
+use Rattle.dm_types.specs.declared.refusal.PutRefusal.{PutRefusal}
+use Rattle.dm_types.specs.declared.refusal.PutRefusal.TheVariants as clash
 use Rattle.dm_types.specs.declared.refusal.StatementRefusal.{StatementRefusal}
 use Rattle.dm_types.specs.declared.refusal.StatementRefusal.TheVariants as statement
 use Rattle.dm_types.specs.declared.refusal.TableRefusal.{TableRefusal}
@@ -30,9 +32,12 @@ table_cause (table.UnsupportedRule name) = codes "O22" ++ codes " " ++ field nam
 abbrev pub statement_cause : StatementRefusal → List ℕ
 statement_cause statement.AppendOnly = codes "S4"
 statement_cause statement.RowTrackingOff = codes "S5"
-statement_cause (statement.NameTaken path) = codes "S16" ++ codes " " ++ field path
-statement_cause (statement.VersionTaken version) = codes "S17" ++ codes " " ++ decimal version
+
+abbrev pub put_cause : PutRefusal → List ℕ
+put_cause (clash.NameTaken path) = codes "S16" ++ codes " " ++ field path
+put_cause (clash.VersionTaken version) = codes "S17" ++ codes " " ++ decimal version
 
 abbrev pub refused_cause : Refused → List ℕ
 refused_cause (refused.Table refusal) = table_cause refusal
 refused_cause (refused.Statement refusal) = statement_cause refusal
+refused_cause (refused.Put refusal) = put_cause refusal

@@ -13,13 +13,13 @@ use Rattle.script_run.specs.Outcome.{refused_line}
 use Rattle.table_write.specs.Outside.{Outside}
 use Rattle.script_run.specs.Refusals.{refused_cause}
 use Rattle.script_run.specs.Shown.{show_files}
-use Rattle.table_write.specs.Writing.{Writes}
+use Rattle.table_write.specs.Writing.{CarriesOut}
 
 -- a statement over the outside before it: its text, its refusal or why it stopped, and the outside that it leaves. Each
 -- kind of statement is a case; one that only reads touches nothing
 abbrev pub Answers : Statement → Outside → Result (List ℕ) Stop → Outside → Type 0
 Answers (statement.ShowFiles table) old answer new = Tells old.files (show_files table) answer × (new ≡ old)
-Answers (statement.Delete table) old answer new = Writes (delete_from table) old answer new
+Answers (statement.Delete table) old answer new = CarriesOut (delete_from table) old answer new
 
 -- a statement's text, or why it is refused
 abbrev pub Answer : Type 0

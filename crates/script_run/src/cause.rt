@@ -6,7 +6,9 @@ ghost use Rattle.script_run.specs.Refusals as spec;
 ghost use Rattle.dm_text.specs.Printing.{field as field_of};
 
 use dm_text::print_field;
-use dm_types::{Bytes, Counted, DataType, Refused, StatementRefusal, TableRefusal, Text, Value};
+use dm_types::{
+    Bytes, Counted, DataType, PutRefusal, Refused, StatementRefusal, TableRefusal, Text, Value,
+};
 use std::alloc::{AllocError, Global};
 
 /// The code of a refusal, and its fields behind it: numbers in decimal, texts as fields.
@@ -16,6 +18,7 @@ pub(crate) fn cause_of(alloc: Global, why: &Refused) -> Result<Bytes, AllocError
     match why {
         Refused::Table(refusal) => table_cause(alloc, refusal),
         Refused::Statement(refusal) => statement_cause(alloc, refusal),
+        Refused::Put(refusal) => put_cause(alloc, refusal),
     }
 }
 
@@ -52,8 +55,15 @@ fn statement_cause(alloc: Global, refusal: &StatementRefusal) -> Result<Bytes, A
     match refusal {
         StatementRefusal::AppendOnly => Bytes::from_slice(alloc, b"S4"),
         StatementRefusal::RowTrackingOff => Bytes::from_slice(alloc, b"S5"),
-        StatementRefusal::NameTaken { path } => with_text(alloc, "S16", path),
-        StatementRefusal::VersionTaken { version } => with_number(alloc, "S17", *version),
+    }
+}
+
+fn put_cause(alloc: Global, refusal: &PutRefusal) -> Result<Bytes, AllocError>
+    ensures { IfOk result (λ cause. cause ≡ spec.put_cause refusal.now) }
+{
+    match refusal {
+        PutRefusal::NameTaken { path } => with_text(alloc, "S16", path),
+        PutRefusal::VersionTaken { version } => with_number(alloc, "S17", *version),
     }
 }
 
@@ -82,6 +92,6 @@ fn with_text(alloc: Global, code: &str, text: &Text) -> Result<Bytes, AllocError
     let mut cause = Bytes::from_slice(alloc, code.as_bytes())?;
     cause.push(b' ')?;
     let field = Value::Text(Text::from_str(alloc, text.as_str())?);
-    print_field(alloc, &field, &DataType::Str, &mut cause)?;
+    print_field(&field, &DataType::Str, &mut cause)?;
     Ok(cause)
 }

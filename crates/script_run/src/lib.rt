@@ -16,5 +16,3 @@ pub use runs::run;
 pub use statement::{Statement, Statements};
 pub use status::Status;
 
-#[cfg(test)]
-mod tests;

@@ -1,10 +1,10 @@
 // The top call.
 ghost use Rattle.std.specs.Prelude.{◌≡◌, ◌≤◌, length, IfOk};
 ghost use Rattle.dm_store.specs.Causes.{Counts};
-ghost use Rattle.script_run.specs.Outcome.{IsDueOf, max_script};
-ghost use Rattle.table_write.specs.Outside.{Outside};
+ghost use Rattle.script_run.specs.Outcome.{IsDueOf};
+ghost use Rattle.table_write.specs.Outside.{outside};
 ghost use Rattle.script_run.specs.Reaching.{Reaches, ReadsBefore, SourceCause, IsLineStatus, EndsByLine, EndsRun};
-ghost use Rattle.script_run.specs.Ran.{Counters, Blames, Ran, ReadsSource, IsBeforeStatements, status_of};
+ghost use Rattle.script_run.specs.Ran.{counters, Blames, Ran, ReadsSource, IsBeforeStatements, status_of};
 
 use crate::halt::Halt;
 use crate::outcome::{Due, Outcome};
@@ -16,7 +16,7 @@ use sql_reader::ScriptFault;
 use std::alloc::{AllocError, Global};
 
 /// The longest script, in bytes.
-const MAX_SCRIPT: usize = 1_048_576;
+pub(crate) const MAX_SCRIPT: usize = 1_048_576;
 
 /// Runs a script on the tables of a store, and returns the exit status: the number of a [`Status`].
 ///
@@ -36,11 +36,11 @@ pub fn run<I: Source, S: Store, K: Sink, C: Clock, N: NameSource>(
     names: &mut N,
 ) -> u8
     ensures range { result ≤ 8 }
-    ensures blame { let before : Counters = record { store = S.faults store.old; sink = K.faults out.old; source = I.faults script.old; names = N.faults names.old } in
-        let now : Counters = record { store = S.faults store.new; sink = K.faults out.new; source = I.faults script.new; names = N.faults names.new } in
+    ensures blame { let before = counters (S.faults store.old) (K.faults out.old) (I.faults script.old) (N.faults names.old) in
+        let now = counters (S.faults store.new) (K.faults out.new) (I.faults script.new) (N.faults names.new) in
         Blames (status_of result) before now }
-    ensures ran { let old : Outside = record { files = S.files store.old; taken = S.taken store.old; names = N.given names.old; times = C.given clock.old } in
-        let new : Outside = record { files = S.files store.new; taken = S.taken store.new; names = N.given names.new; times = C.given clock.new } in
+    ensures ran { let old = outside (S.files store.old) (S.taken store.old) (N.given names.old) (C.given clock.old) in
+        let new = outside (S.files store.new) (S.taken store.new) (N.given names.new) (C.given clock.new) in
         Ran words.now (I.left script.old) old new (K.written out.old) (K.written out.new) (status_of result) }
     ensures reads { ReadsSource (status_of result) (I.left script.old) (I.left script.new) }
     ensures apart { IsBeforeStatements (status_of result) → (store.new ≡ store.old) × (clock.new ≡ clock.old) × (names.new ≡ names.old) }
@@ -58,11 +58,11 @@ fn run_words<I: Source, S: Store, K: Sink, C: Clock, N: NameSource>(
     clock: &mut C,
     names: &mut N,
 ) -> Status
-    ensures blame { let before : Counters = record { store = S.faults store.old; sink = K.faults out.old; source = I.faults script.old; names = N.faults names.old } in
-        let now : Counters = record { store = S.faults store.new; sink = K.faults out.new; source = I.faults script.new; names = N.faults names.new } in
+    ensures blame { let before = counters (S.faults store.old) (K.faults out.old) (I.faults script.old) (N.faults names.old) in
+        let now = counters (S.faults store.new) (K.faults out.new) (I.faults script.new) (N.faults names.new) in
         Blames result before now }
-    ensures ran { let old : Outside = record { files = S.files store.old; taken = S.taken store.old; names = N.given names.old; times = C.given clock.old } in
-        let new : Outside = record { files = S.files store.new; taken = S.taken store.new; names = N.given names.new; times = C.given clock.new } in
+    ensures ran { let old = outside (S.files store.old) (S.taken store.old) (N.given names.old) (C.given clock.old) in
+        let new = outside (S.files store.new) (S.taken store.new) (N.given names.new) (C.given clock.new) in
         Ran words.now (I.left script.old) old new (K.written out.old) (K.written out.new) result }
     ensures reads { ReadsSource result (I.left script.old) (I.left script.new) }
     ensures apart { IsBeforeStatements result → (store.new ≡ store.old) × (clock.new ≡ clock.old) × (names.new ≡ names.old) }
@@ -95,7 +95,7 @@ fn what_is_due<I: Source>(alloc: Global, words: &[String], script: &mut I) -> Re
 
 // What a script that isn't too long makes due.
 fn due_of_script(alloc: Global, script: &[u8]) -> Result<Due, AllocError>
-    requires { length script.now ≤ max_script }
+    requires { length script.now ≤ MAX_SCRIPT }
     ensures due { IfOk result (λ what. IsDueOf script.now what) }
     ensures line { IfOk result EndsByLine }
 {
@@ -110,8 +110,8 @@ fn due_of_script(alloc: Global, script: &[u8]) -> Result<Due, AllocError>
 fn end<K: Sink>(out: &mut K, outcome: &Outcome) -> Status
     requires { IsLineStatus outcome.now.status }
     ensures ends { EndsRun outcome.now (K.written out.old) (K.written out.new) result }
-    ensures blame { let before : Counters = record { store = 0; sink = K.faults out.old; source = 0; names = 0 } in
-        let now : Counters = record { store = 0; sink = K.faults out.new; source = 0; names = 0 } in
+    ensures blame { let before = counters 0 (K.faults out.old) 0 0 in
+        let now = counters 0 (K.faults out.new) 0 0 in
         Blames result before now }
 {
     match out.put(outcome.text.as_slice()) {

@@ -35,14 +35,14 @@ fn path_lines(alloc: Global, paths: &TextList) -> Result<Bytes, AllocError>
 {
     let mut text = Bytes::new(alloc);
     for path in paths.as_slice() {
-        print_line(alloc, &mut text, path.clone()?)?;
+        print_line(&mut text, path.clone()?)?;
     }
     Ok(text)
 }
 
-fn print_line(alloc: Global, out: &mut Bytes, path: Text) -> Result<(), AllocError>
+fn print_line(out: &mut Bytes, path: Text) -> Result<(), AllocError>
     ensures { OnOk result (out.new ≡ out.old ++ field path ++ 10 ∷ []) }
 {
-    print_field(alloc, &Value::Text(path), &DataType::Str, out)?;
+    print_field(&Value::Text(path), &DataType::Str, out)?;
     out.push(b'\n')
 }

@@ -1,7 +1,7 @@
 // Running the statements of a script in turn.
 ghost use Rattle.dm_store.specs.Causes.{Counts, StopCause, DrawCause};
-ghost use Rattle.table_write.specs.Outside.{Outside};
-ghost use Rattle.script_run.specs.Ran.{Counters, Blames};
+ghost use Rattle.table_write.specs.Outside.{outside};
+ghost use Rattle.script_run.specs.Ran.{counters, Blames};
 ghost use Rattle.script_run.specs.Reaching.{RunsOne, RunsAll, BlamesOne};
 ghost use Rattle.script_run.specs.Running.{Answers};
 
@@ -24,11 +24,11 @@ pub(crate) fn run_statements<S: Store, K: Sink, C: Clock, N: NameSource>(
     names: &mut N,
     statements: &Statements,
 ) -> Status
-    ensures runs { let old : Outside = record { files = S.files store.old; taken = S.taken store.old; names = N.given names.old; times = C.given clock.old } in
-        let new : Outside = record { files = S.files store.new; taken = S.taken store.new; names = N.given names.new; times = C.given clock.new } in
+    ensures runs { let old = outside (S.files store.old) (S.taken store.old) (N.given names.old) (C.given clock.old) in
+        let new = outside (S.files store.new) (S.taken store.new) (N.given names.new) (C.given clock.new) in
         RunsAll statements.now old new (K.written out.old) (K.written out.new) result }
-    ensures blame { let before : Counters = record { store = S.faults store.old; sink = K.faults out.old; source = 0; names = N.faults names.old } in
-        let now : Counters = record { store = S.faults store.new; sink = K.faults out.new; source = 0; names = N.faults names.new } in
+    ensures blame { let before = counters (S.faults store.old) (K.faults out.old) 0 (N.faults names.old) in
+        let now = counters (S.faults store.new) (K.faults out.new) 0 (N.faults names.new) in
         Blames result before now }
 {
     let mut number = 0;
@@ -51,11 +51,11 @@ fn run_numbered<S: Store, K: Sink, C: Clock, N: NameSource>(
     number: u64,
     statement: &Statement,
 ) -> Result<(), Status>
-    ensures runs { let old : Outside = record { files = S.files store.old; taken = S.taken store.old; names = N.given names.old; times = C.given clock.old } in
-        let new : Outside = record { files = S.files store.new; taken = S.taken store.new; names = N.given names.new; times = C.given clock.new } in
+    ensures runs { let old = outside (S.files store.old) (S.taken store.old) (N.given names.old) (C.given clock.old) in
+        let new = outside (S.files store.new) (S.taken store.new) (N.given names.new) (C.given clock.new) in
         RunsOne number statement.now old new (K.written out.old) (K.written out.new) result }
-    ensures blame { let before : Counters = record { store = S.faults store.old; sink = K.faults out.old; source = 0; names = N.faults names.old } in
-        let now : Counters = record { store = S.faults store.new; sink = K.faults out.new; source = 0; names = N.faults names.new } in
+    ensures blame { let before = counters (S.faults store.old) (K.faults out.old) 0 (N.faults names.old) in
+        let now = counters (S.faults store.new) (K.faults out.new) 0 (N.faults names.new) in
         BlamesOne before now result }
 {
     match run_statement(alloc, store, clock, names, statement) {
@@ -79,8 +79,8 @@ fn run_statement<S: Store, C: Clock, N: NameSource>(
     names: &mut N,
     statement: &Statement,
 ) -> Result<Bytes, Stop>
-    ensures answer { let old : Outside = record { files = S.files store.old; taken = S.taken store.old; names = N.given names.old; times = C.given clock.old } in
-        let new : Outside = record { files = S.files store.new; taken = S.taken store.new; names = N.given names.new; times = C.given clock.new } in
+    ensures answer { let old = outside (S.files store.old) (S.taken store.old) (N.given names.old) (C.given clock.old) in
+        let new = outside (S.files store.new) (S.taken store.new) (N.given names.new) (C.given clock.new) in
         Answers statement.now old result new }
     ensures cause { Counts StopCause (S.faults store.old) (S.faults store.new) result }
     ensures draws { Counts DrawCause (N.faults names.old) (N.faults names.new) result }

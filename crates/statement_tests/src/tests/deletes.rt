@@ -1,15 +1,15 @@
 // Whole runs of DELETE over objects in memory.
 use super::{File, ONE, TWO, ZERO};
-use crate::run;
 use dm_store::{
     ClaimStore, MemoryClock, MemoryNames, MemorySink, MemorySource, MemoryStore, Store,
 };
 use dm_types::{Bytes, CountList, NameList, PathBytes, Text, TextList, WholeList};
+use script_run::run;
 use std::alloc::Global;
 use std::test::Fail;
 
 // A table with one file, whose rows are tracked.
-const TRACKED: &str = concat!(
+pub(super) const TRACKED: &str = concat!(
     "{\"protocol\":{\"minReaderVersion\":1,\"minWriterVersion\":7,\"writerFeatures\":[\"domainMetadata\",\"rowTracking\"]}}\n",
     "{\"metaData\":{\"id\":\"i\",\"schemaString\":\"{}\",\"configuration\":{\"delta.enableRowTracking\":\"true\"}}}\n",
     "{\"add\":{\"path\":\"a.parquet\",\"size\":7,\"baseRowId\":0,\"defaultRowCommitVersion\":0}}\n",

@@ -1,9 +1,11 @@
 // Whole runs over objects in memory.
 mod deletes;
+mod folders;
+mod turns;
 
-use crate::run;
 use dm_store::{MemoryClock, MemoryNames, MemorySink, MemorySource, MemoryStore, Store};
 use dm_types::{Bytes, CountList, NameList, WholeList};
+use script_run::run;
 use std::alloc::{AllocError, Global};
 use std::process::Abort;
 use std::test::Fail;
