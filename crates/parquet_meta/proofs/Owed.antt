@@ -1,9 +1,7 @@
 -- The leaves, element by element.
-use Rattle.std.proofs.Common.{◌≡◌, ℕ, zero, suc, ◌+◌, ◌<◌, ◌≤◌, List, [], ◌∷◌, ◌++◌, length, get_or, drop, Bool, true, false, Option, Some, None, option_map, option_and_then, Ok, Err, refl, sym, ap, ◌∙◌, append_assoc, arith, drop-cons}
-use Rattle.std.proofs.lemmas.List.{append-nil, drop_all}
+use Rattle.std.proofs.Common.{◌≡◌, ℕ, zero, suc, ◌+◌, ◌<◌, List, [], ◌∷◌, ◌++◌, length, get_or, drop, Bool, true, false, Option, Some, None, option_map, option_and_then, Ok, refl, sym, ap, ◌∙◌, append_assoc, arith, drop-cons}
 use Rattle.parquet_meta.specs.declared.elements.Element.{Element}
 use Rattle.parquet_meta.specs.declared.metadata.LeafSchema.{LeafSchema}
-use Rattle.parquet_meta.specs.declared.fault.MetaFault.TheVariants.{BadFooter}
 use Rattle.parquet_meta.specs.Leaves.{count_of, own_leaves, joined, leaves_of}
 use Rattle.parquet_meta.specs.Steps.{AddsOwn}
 

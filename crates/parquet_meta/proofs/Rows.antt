@@ -1,20 +1,16 @@
 -- What is left of a file's rows, group by group.
-use Rattle.std.proofs.Common.{◌≡◌, ℕ, suc, ◌+◌, ◌<◌, ◌≤◌, List, [], ◌∷◌, length, get_or, drop, Bool, true, false, refl, sym, ap, ◌∙◌, arith, drop-cons, ℤ, pos, ◌+ℤ◌, ◌-ℤ◌, ◌≤ℤ◌, ◌<ℤ◌}
+use Rattle.std.proofs.Common.{◌≡◌, ℕ, suc, ◌+◌, ◌<◌, List, [], ◌∷◌, length, get_or, drop, Bool, true, false, refl, sym, ap, ◌∙◌, arith, drop-cons, ℤ, pos, ◌+ℤ◌, ◌≤ℤ◌, ◌<ℤ◌}
 use Rattle.std.specs.Prelude.{◌&&◌}
 use Rattle.std.specs.List.{list_all}
 use Rattle.std.specs.Ordering.{int_eq}
 use Rattle.std.specs.Int.Signed.{le_z}
 use Rattle.std.proofs.lemmas.Int.{ints}
-use Rattle.std.proofs.lemmas.List.{drop_all}
 use Rattle.std.proofs.lemmas.Bool.Decides.{Decides-int_eq}
 use Rattle.parquet_meta.specs.declared.metadata.RowGroup.{RowGroup}
 use Rattle.parquet_meta.specs.Meaning.{total_rows, rows_add_up}
 
 abbrev nonneg : List RowGroup → Bool
 nonneg gs = list_all (λ group. le_z (pos 0) group.rows) gs
-
-gt_test : (z : ℤ) → z <ℤ pos 0 → le_z (pos 0) z ≡ false
-gt_test z h = grind (arith, ints)
 
 test_le : (z : ℤ) → le_z (pos 0) z ≡ true → pos 0 ≤ℤ z
 test_le z h = grind (arith, ints)
@@ -43,8 +39,8 @@ total-nonneg (g ∷ gs) h =
     omega (arith, ints)
 
 module _ (left : ℤ) (g : RowGroup) (gs : List RowGroup) where
-  negative_one : g.rows <ℤ pos 0 → rows_add_up left (g ∷ gs) ≡ false
-  negative_one h = rw (gt_test g.rows h) refl
+  negative_one : le_z (pos 0) g.rows ≡ false → rows_add_up left (g ∷ gs) ≡ false
+  negative_one h = rw h refl
 
   past_one : left <ℤ g.rows → rows_add_up left (g ∷ gs) ≡ false
   past_one h = and_false (nonneg (g ∷ gs)) (int_eq (g.rows +ℤ total_rows gs) left) (λ all.
@@ -59,7 +55,7 @@ module _ (groups : List RowGroup) (place : ℕ) (g : RowGroup) (stands : (place 
       let next : suc place ≡ place + 1 = omega arith in
       known ∙ ap (rows_add_up left) (drop-cons groups place g stands.0 ∙ ap (λ n. n ∷ drop (suc place) groups) (sym stands.1) ∙ ap (λ k. g ∷ drop k groups) next)
 
-  pub negative : g.rows <ℤ pos 0 → total ≡ false
+  pub negative : le_z (pos 0) g.rows ≡ false → total ≡ false
   negative h = opened ∙ negative_one left g (drop (place + 1) groups) h
 
   pub past : left <ℤ g.rows → total ≡ false

@@ -22,7 +22,18 @@ column_of external t = do
   index ← checked shape.I64 (pos 10) t  -- 10 index_page_offset
   dictionary_at ← optional i64 (pos 11) t  -- 11 dictionary_page_offset
   statistics ← checked shape.Struct (pos 12) t  -- 12 statistics
-  Some (record { external = external; physical = physical; encodings = encodings; path = path; codec = codec; values = values; unpacked = unpacked; packed = packed; page_at = page_at; dictionary_at = dictionary_at })
+  Some (record {
+    external = external;
+    physical = physical;
+    encodings = encodings;
+    path = path;
+    codec = codec;
+    values = values;
+    unpacked = unpacked;
+    packed = packed;
+    page_at = page_at;
+    dictionary_at = dictionary_at;
+  })
 
 -- ColumnChunk; that meta_data must be there is this project's own rule
 abbrev pub chunk_of : List Field → Option ChunkMeta

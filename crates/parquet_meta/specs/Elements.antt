@@ -26,5 +26,10 @@ element_of t = do
     name = name;
     children = children;
     field_id = field_id;
-    annotation = record { converted = converted; scale = scale; precision = precision; logical = unwrap_or logical Absent };
+    annotation = record {
+      converted = converted;
+      scale = scale;
+      precision = precision;
+      logical = unwrap_or logical Absent;
+    };
   })

@@ -38,7 +38,14 @@ page_v2_of t = do
   repetition ← needed i32 (pos 6) t  -- 6 repetition_levels_byte_length
   is_compressed ← checked shape.Bool (pos 7) t  -- 7 is_compressed
   statistics ← checked shape.Struct (pos 8) t  -- 8 statistics
-  Some (record { values = values; nulls = nulls; rows = rows; encoding = encoding; definition_bytes = definition; repetition_bytes = repetition })
+  Some (record {
+    values = values;
+    nulls = nulls;
+    rows = rows;
+    encoding = encoding;
+    definition_bytes = definition;
+    repetition_bytes = repetition;
+  })
 
 -- PageHeader
 abbrev pub header_of : List Field → Option PageHeader
@@ -51,4 +58,11 @@ header_of t = do
   index ← checked shape.Struct (pos 6) t  -- 6 index_page_header
   dictionary ← optional (struct dictionary_of) (pos 7) t  -- 7 dictionary_page_header
   page_v2 ← optional (struct page_v2_of) (pos 8) t  -- 8 data_page_header_v2
-  Some (record { kind = kind; unpacked = unpacked; packed = packed; page = page; dictionary = dictionary; page_v2 = page_v2 })
+  Some (record {
+    kind = kind;
+    unpacked = unpacked;
+    packed = packed;
+    page = page;
+    dictionary = dictionary;
+    page_v2 = page_v2;
+  })

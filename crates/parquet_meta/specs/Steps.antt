@@ -22,7 +22,8 @@ use Rattle.parquet_meta.specs.Written.{told_length, repetition_by}
 -- a call gave the number of children of an element, and added the leaf that it is
 abbrev pub AddsOwn : Bool → Element → Element → List LeafSchema → List LeafSchema → Result ℕ MetaFault → Type 0
 AddsOwn top owner e old new (Ok children) =
-    (count_of e.children ≡ Some children) × (option_map (λ own. old ++ own) (own_leaves top owner e children) ≡ Some new)
+    (count_of e.children ≡ Some children)
+    × (option_map (λ own. old ++ own) (own_leaves top owner e children) ≡ Some new)
 AddsOwn top owner e old new (Err BadFooter) = (count_of e.children >>= own_leaves top owner e) ≡ None
 AddsOwn top owner e old new (Err Memory) = ⊤
 

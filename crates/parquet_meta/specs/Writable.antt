@@ -20,7 +20,8 @@ IsWritableLogical logical.Date = ⊤
 IsWritableLogical (logical.Timestamp unit) = unit ≤ NANOS
 IsWritableLogical logical.Other = ⊥
 
--- a leaf at the top, of a known physical type, with a length above 0 where values need one, and not both optional and repeated
+-- a leaf at the top, of a known physical type, with a length above 0 where values need one, and not both optional and
+-- repeated
 pub record IsWritableLeaf (leaf : LeafSchema) : Type 0 where
   pub top : leaf.top ≡ true
   pub physical : leaf.physical ≤ FIXED_LEN_BYTE_ARRAY
@@ -33,8 +34,8 @@ pub record IsWritableChunk (c : ChunkMeta) : Type 0 where
   pub inside : c.external ≡ false
   pub encodings : AllByRecursion (FitsSigned w32) c.encodings
 
--- Fewer than 2 to the 31 leaves at the top, one chunk for each leaf and row group, of the leaf's type and in this file,
--- and row counts that aren't negative and add up.
+-- Fewer than 2 to the 31 leaves at the top, one chunk for each leaf and row group, of the leaf's type and in this
+-- file, and row counts that aren't negative and add up.
 pub record IsWritableFooter (f : Footer) : Type 0 where
   pub few : length f.leaves < 2 ^ 31
   pub leaves : AllByRecursion IsWritableLeaf f.leaves

@@ -1,6 +1,7 @@
 // Reading a footer and a page header.
 ghost use Rattle.std.specs.Prelude.{◌≡◌, pos, length, zip};
 ghost use Rattle.std.specs.List.{list_all};
+ghost use Rattle.std.specs.Int.Signed.{le_z};
 ghost use Rattle.parquet_meta.specs.Gives.{Gives};
 ghost use Rattle.parquet_meta.specs.Meaning.{is_chunk as is_chunk_of, groups_fit as groups_fit_of, has_chunks as has_chunks_of, rows_add_up as rows_add_up_of, footer_of, footer_in, page_header_in};
 
@@ -37,13 +38,20 @@ fn has_chunks(leaves: &LeafList, group: &RowGroup) -> bool
     group.chunks.len() == leaves.len() && are_chunks(group.chunks.as_slice(), leaves.as_slice())
 }
 
+/// Whether the group's number of rows is none below 0.
+fn has_a_count(group: &RowGroup) -> bool
+    ensures { result ≡ le_z (pos 0) group.now.rows }
+{
+    group.rows >= 0
+}
+
 /// Whether the groups' rows aren't negative and add up to the file's.
 fn rows_add_up(rows: i64, groups: &[RowGroup]) -> bool
     ensures { result ≡ rows_add_up_of rows groups.now }
 {
     let mut left = rows;
     for group in groups {
-        if group.rows < 0 || group.rows > left {
+        if !has_a_count(group) || group.rows > left {
             return false;
         }
         left -= group.rows;

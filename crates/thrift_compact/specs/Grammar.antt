@@ -13,6 +13,8 @@ use Rattle.thrift_compact.specs.declared.value.Value.{Value}
 use Rattle.thrift_compact.specs.declared.tree.Node.{Node}
 use Rattle.thrift_compact.specs.declared.tree.Node.TheVariants as n
 use Rattle.thrift_compact.specs.declared.tree.Field.{Field}
+use Rattle.thrift_compact.specs.declared.number.TheConstants.{MAX_BYTES}
+use Rattle.thrift_compact.specs.declared.tree.TheConstants.{MAX_INNER}
 
 -- ---- how forms are put together
 
@@ -49,10 +51,10 @@ IsUleb [] n = ⊥
 IsUleb (b ∷ []) n = (b < 128) × (n ≡ b)
 IsUleb (b ∷ c ∷ bytes) n = (128 ≤ b) × ((high : ℕ) × (n ≡ b % 128 + 128 * high) × IsUleb (c ∷ bytes) high)
 
--- a varint of at most 10 bytes, below 2 to the width; it may be longer than the number needs
+-- a varint of few enough bytes, below 2 to the width; it may be longer than the number needs
 pub record IsVarint (width : ℕ) (bytes : List ℕ) (number : ℕ) : Type 0 where
   pub uleb : IsUleb bytes number
-  pub short : length bytes ≤ 10
+  pub short : length bytes ≤ MAX_BYTES
   pub fits : number < 2 ^ width
 
 -- 0, -1, 1, -2, 2 and so on are 0, 1, 2, 3, 4
@@ -94,7 +96,8 @@ IsScalar kind.Double = Made (λ bytes. plain (n.Double bytes)) (IsBytes 8)
 IsScalar kind.Binary = Made (λ bytes. plain (n.Binary bytes)) IsBinary
 IsScalar _ = λ bytes value. ⊥
 
--- ---- lists, sets and maps. `left` is how many structs, lists, sets and maps may be opened in them, `inner` the form of what is in them.
+-- ---- lists, sets and maps. `left` is how many structs, lists, sets and maps may be opened in them, and `inner` the
+-- ---- form of what is in them.
 
 -- elements of the type may stand there, if there are any
 abbrev pub MayHold : ℕ → Kind → ℕ → Type 0
@@ -117,11 +120,16 @@ IsNode = Made (λ value. value.node)
 
 -- a list or a set, as its elements and the width of whole numbers among them
 abbrev pub IsList : ℕ → (Kind → Form Value) → Form (List Node × ℕ)
-IsList left inner = Then (IsListHeader left) (λ h. Made (λ nodes. (nodes, list_width h.kind nodes)) (Times (IsNode (inner h.kind)) h.size))
+IsList left inner =
+    Then (IsListHeader left) (λ h.
+    Made (λ nodes. (nodes, list_width h.kind nodes)) (Times (IsNode (inner h.kind)) h.size))
 
 -- one byte: the type of the keys in the upper half, and that of the values in the lower half
 abbrev pub IsEntryKinds : ℕ → Form EntryKinds
-IsEntryKinds left bytes kinds = (bytes ≡ (16 * code_of kinds.key + code_of kinds.value) ∷ []) × IsTrue (may_stand left kinds.key) × IsTrue (may_stand left kinds.value)
+IsEntryKinds left bytes kinds =
+    (bytes ≡ (16 * code_of kinds.key + code_of kinds.value) ∷ [])
+    × IsTrue (may_stand left kinds.key)
+    × IsTrue (may_stand left kinds.value)
 
 -- a key, and then its value
 abbrev pub IsEntry : Form Node → Form Node → Form (Node × Node)
@@ -130,7 +138,9 @@ IsEntry K V = Then K (λ key. Made (λ value. (key, value)) V)
 -- an empty map has no byte of types
 abbrev pub IsEntries : ℕ → (Kind → Form Value) → ℕ → Form (List (Node × Node))
 IsEntries left inner zero = Nothing []
-IsEntries left inner (suc more) = Then (IsEntryKinds left) (λ kinds. Times (IsEntry (IsNode (inner kinds.key)) (IsNode (inner kinds.value))) (suc more))
+IsEntries left inner (suc more) =
+    Then (IsEntryKinds left) (λ kinds.
+    Times (IsEntry (IsNode (inner kinds.key)) (IsNode (inner kinds.value))) (suc more))
 
 -- a varint count, the types, and the entries
 abbrev pub IsMap : ℕ → (Kind → Form Value) → Form (List (Node × Node))
@@ -140,7 +150,12 @@ IsMap left inner = Then (IsVarint 64) (IsEntries left inner)
 
 -- one byte: the difference to the id before in the upper half, the type in the lower half
 abbrev pub IsShortField : ℤ → Form FieldHeader
-IsShortField last bytes h = (delta : ℕ) × (0 < delta) × (bytes ≡ (16 * delta + code_of h.kind) ∷ []) × (h.id ≡ last +ℤ pos delta) × (h.id ≤ℤ pos 32767)
+IsShortField last bytes h =
+    (delta : ℕ)
+    × (0 < delta)
+    × (bytes ≡ (16 * delta + code_of h.kind) ∷ [])
+    × (h.id ≡ last +ℤ pos delta)
+    × (h.id ≤ℤ pos 32767)
 
 -- 0 in the upper half, and then the id
 abbrev pub IsLongField : Form FieldHeader
@@ -162,7 +177,12 @@ IsField left inner last = Then (IsFieldHeader left last) (λ h. Made (field_of h
 -- fields one after another, and the byte 0
 abbrev pub IsFields : (ℤ → Form Field) → ℤ → Form (List Field)
 IsFields F last bytes [] = bytes ≡ 0 ∷ []
-IsFields F last bytes (x ∷ xs) = (front : List ℕ) × (back : List ℕ) × (bytes ≡ front ++ back) × F last front x × IsFields F (id_of x) back xs
+IsFields F last bytes (x ∷ xs) =
+    (front : List ℕ)
+    × (back : List ℕ)
+    × (bytes ≡ front ++ back)
+    × F last front x
+    × IsFields F (id_of x) back xs
 
 -- ---- values at any depth
 
@@ -179,6 +199,6 @@ unfoldable pub IsValue : ℕ → Kind → Form Value
 IsValue zero kind = IsScalar kind
 IsValue (suc left) kind = IsLevel left (IsValue left) kind
 
--- A struct. At most 64 structs, lists, sets and maps are open at once, this one counted. The first id is told from 0.
+-- A struct. So many structs, lists, sets and maps may be open in it at once. The first id is told from 0.
 abbrev pub IsStruct : Form (List Field)
-IsStruct = IsFields (IsField 63 (IsValue 63)) (pos 0)
+IsStruct = IsFields (IsField MAX_INNER (IsValue MAX_INNER)) (pos 0)

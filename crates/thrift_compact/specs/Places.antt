@@ -1,5 +1,5 @@
 -- What is asked of a struct that was found, and of the place of a fault.
-use Rattle.std.specs.Prelude.{◌≡◌, ℕ, ◌+◌, ◌<◌, ◌≤◌, List, ◌++◌, length, take}
+use Rattle.std.specs.Prelude.{ℕ, ◌+◌, ◌<◌, ◌≤◌, List, ◌++◌, length, take}
 use Rattle.thrift_compact.specs.Grammar.{IsVarint, IsStruct}
 use Rattle.thrift_compact.specs.declared.tree.Field.{Field}
 

@@ -1,5 +1,5 @@
 -- Reading from the front of bytes, as functions on lists.
-use Rattle.std.specs.Prelude.{ℕ, zero, suc, ℤ, pos, negsuc, ◌+◌, ◌-◌, ◌*◌, ◌/◌, ◌%◌, ◌==◌, Bool, true, false, nat_lt, if◌then◌else◌, List, [], ◌∷◌, ◌++◌, length, slice_get, take, drop, Option, Some, None, Result, Ok, Err}
+use Rattle.std.specs.Prelude.{ℕ, zero, suc, ℤ, pos, negsuc, ◌+◌, ◌-◌, ◌*◌, ◌/◌, ◌%◌, ◌==◌, true, false, nat_lt, if◌then◌else◌, List, [], ◌∷◌, length, slice_get, take, drop, Option, Some, None, Result, Ok, Err}
 use Rattle.std.specs.Option.{option_map_or}
 use Rattle.std.specs.Int.{cast_signed, w8}
 use Rattle.thrift_compact.specs.Values.{plain, sized, list_width, field_of, id_of, truth_of, field_start, size_width, list_start, entry_kinds, varint_byte}
@@ -12,6 +12,8 @@ use Rattle.thrift_compact.specs.declared.value.Value.{Value}
 use Rattle.thrift_compact.specs.declared.tree.Node.{Node}
 use Rattle.thrift_compact.specs.declared.tree.Node.TheVariants as n
 use Rattle.thrift_compact.specs.declared.tree.Field.{Field}
+use Rattle.thrift_compact.specs.declared.number.TheConstants.{MAX_BYTES}
+use Rattle.thrift_compact.specs.declared.tree.TheConstants.{MAX_INNER}
 
 -- ---- readers
 
@@ -53,15 +55,17 @@ times f (suc n) bytes = f bytes >>= λ x. made (λ xs. x.0 ∷ xs) (times f n x.
 
 -- the low bits, before those of the bytes behind where it goes on
 abbrev pub varint_on : VarintByte → Reader ℕ → Reader ℕ
-varint_on byte behind bytes = if byte.more then made (λ high. byte.low + 128 * high) (behind bytes) else Ok (byte.low, bytes)
+varint_on byte behind bytes =
+    if byte.more then made (λ high. byte.low + 128 * high) (behind bytes) else Ok (byte.low, bytes)
 
 -- a varint of at most so many bytes, below 2 to the width
 unfoldable pub varint_of : ℕ → ℕ → Reader ℕ
 varint_of zero width bytes = Err bytes
-varint_of (suc room) width bytes = one (varint_byte width (nat_lt 0 room)) bytes >>= λ byte. varint_on byte.0 (varint_of room (width - 7)) byte.1
+varint_of (suc room) width bytes =
+    one (varint_byte width (nat_lt 0 room)) bytes >>= λ byte. varint_on byte.0 (varint_of room (width - 7)) byte.1
 
 abbrev pub varint : ℕ → Reader ℕ
-varint width = varint_of 10 width
+varint width = varint_of MAX_BYTES width
 
 abbrev pub varint_found : ℕ → Outcome ℕ → Option (ℕ × ℕ)
 varint_found total (Ok p) = Some (p.0, total - length p.1)
@@ -103,7 +107,8 @@ scalar _ bytes = Err bytes
 
 abbrev pub list_size : ℕ → Kind → Option ℕ → Reader ListHeader
 list_size left kind (Some size) bytes = Ok (record { size = size; kind = kind }, bytes)
-list_size left kind None bytes = made (λ size. record { size = size; kind = kind }) (varint (size_width left kind) bytes)
+list_size left kind None bytes =
+    made (λ size. record { size = size; kind = kind }) (varint (size_width left kind) bytes)
 
 abbrev pub list_header : ℕ → Reader ListHeader
 list_header left bytes = one (list_start left) bytes >>= λ start. list_size left start.0.kind start.0.size start.1
@@ -114,7 +119,9 @@ node f bytes = made (λ v. v.node) (f bytes)
 
 -- a list or a set, as its elements and the width of whole numbers among them
 abbrev pub list : ℕ → (Kind → Reader Value) → Reader (List Node × ℕ)
-list left inner bytes = list_header left bytes >>= λ header. made (λ nodes. (nodes, list_width header.0.kind nodes)) (times (node (inner header.0.kind)) header.0.size header.1)
+list left inner bytes =
+    list_header left bytes >>= λ header.
+    made (λ nodes. (nodes, list_width header.0.kind nodes)) (times (node (inner header.0.kind)) header.0.size header.1)
 
 abbrev pub entry : Reader Node → Reader Node → Reader (Node × Node)
 entry key value bytes = key bytes >>= λ k. made (λ v. (k.0, v)) (value k.1)
@@ -122,7 +129,9 @@ entry key value bytes = key bytes >>= λ k. made (λ v. (k.0, v)) (value k.1)
 -- what follows the size of a map
 abbrev pub entries : ℕ → (Kind → Reader Value) → ℕ → Reader (List (Node × Node))
 entries left inner zero bytes = Ok ([], bytes)
-entries left inner (suc more) bytes = one (entry_kinds left) bytes >>= λ kinds. times (entry (node (inner kinds.0.key)) (node (inner kinds.0.value))) (suc more) kinds.1
+entries left inner (suc more) bytes =
+    one (entry_kinds left) bytes >>= λ kinds.
+    times (entry (node (inner kinds.0.key)) (node (inner kinds.0.value))) (suc more) kinds.1
 
 abbrev pub map : ℕ → (Kind → Reader Value) → Reader (List (Node × Node))
 map left inner bytes = varint 64 bytes >>= λ size. entries left inner size.0 size.1
@@ -144,7 +153,8 @@ field_value inner kind.False bytes = Ok (plain (n.Bool false), bytes)
 field_value inner kind bytes = inner kind bytes
 
 abbrev pub field : ℕ → (Kind → Reader Value) → ℤ → Reader Field
-field left inner last bytes = field_header left last bytes >>= λ header. made (field_of header.0.id) (field_value inner header.0.kind header.1)
+field left inner last bytes =
+    field_header left last bytes >>= λ header. made (field_of header.0.id) (field_value inner header.0.kind header.1)
 
 -- the id of the last field, from which the next one is told; 0 before the first
 abbrev pub last_id : List Field → ℤ
@@ -154,7 +164,9 @@ last_id fields = option_map_or id_of (slice_get fields (length fields - 1)) (pos
 unfoldable pub fields_of : (ℤ → Reader Field) → ℕ → ℤ → Reader (List Field)
 fields_of f zero last bytes = Err bytes
 fields_of f (suc more) last [] = Err []
-fields_of f (suc more) last (b ∷ rest) = if b == 0 then Ok ([], rest) else f last (b ∷ rest) >>= λ x. made (λ xs. x.0 ∷ xs) (fields_of f more (id_of x.0) x.1)
+fields_of f (suc more) last (b ∷ rest) =
+    if b == 0 then Ok ([], rest)
+    else f last (b ∷ rest) >>= λ x. made (λ xs. x.0 ∷ xs) (fields_of f more (id_of x.0) x.1)
 
 -- the fields up to the byte 0; each takes a byte at least
 abbrev pub fields : ℕ → (Kind → Reader Value) → ℤ → Reader (List Field)
@@ -175,16 +187,16 @@ unfoldable pub value : ℕ → Kind → Reader Value
 value zero kind bytes = scalar kind bytes
 value (suc left) kind bytes = level left (value left) kind bytes
 
--- the fields of the outermost struct, which is the first of at most 64
+-- the fields of the outermost struct
 abbrev pub struct_fields : Reader (List Field)
-struct_fields bytes = fields 63 (value 63) (pos 0) bytes
+struct_fields bytes = fields MAX_INNER (value MAX_INNER) (pos 0) bytes
 
 -- the struct and how many bytes it takes, or the place of the fault, of this many bytes in all
 abbrev pub placed : {A : Type 0} → ℕ → Outcome A → Result (A × ℕ) ℕ
 placed total (Ok p) = Ok (p.0, total - length p.1)
 placed total (Err rest) = Err (total - length rest)
 
--- The struct at the front of bytes and how many of them it takes, or the place of the first byte with which no struct goes on:
--- the length, where the bytes end before.
+-- The struct at the front of bytes and how many of them it takes, or the place of the first byte with which no struct
+-- goes on: the length, where the bytes end before.
 unfoldable pub read : List ℕ → Result (List Field × ℕ) ℕ
 read bytes = placed (length bytes) (struct_fields bytes)

@@ -63,9 +63,12 @@ start_with_id kind (Some id) = Some (record { id = Some id; kind = kind })
 
 abbrev pub start_by_kind : ℤ → ℕ → Option Kind → Option FieldStart
 start_by_kind last b None = None
-start_by_kind last b (Some kind) = if b / 16 == 0 then Some (record { id = None; kind = kind }) else start_with_id kind (id_after last (b / 16))
+start_by_kind last b (Some kind) =
+    if b / 16 == 0 then Some (record { id = None; kind = kind })
+    else start_with_id kind (id_after last (b / 16))
 
--- the first byte of a field: the difference of the ids in the upper half, or 0 where the id follows; the type in the lower half
+-- the first byte of a field: the difference of the ids in the upper half, or 0 where the id follows; the type in the
+-- lower half
 unfoldable pub field_start : ℕ → ℤ → ℕ → Option FieldStart
 field_start left last b = start_by_kind last b (allowed left (kind_of (b % 16)))
 
@@ -78,10 +81,13 @@ list_by_kind left b None = None
 list_by_kind left b (Some kind) =
     if b / 16 == 15 then Some (record { size = None; kind = kind })
     else if b / 16 == 0 then Some (record { size = Some 0; kind = kind })
-    else if nat_lt (b / 16) 15 then if may_stand left kind then Some (record { size = Some (b / 16); kind = kind }) else None
+    else if nat_lt (b / 16) 15 then
+    if may_stand left kind then Some (record { size = Some (b / 16); kind = kind })
+    else None
     else None
 
--- the first byte of a list or a set: the size in the upper half, or 15 where it follows; the type of the elements in the lower half
+-- the first byte of a list or a set: the size in the upper half, or 15 where it follows; the type of the elements in
+-- the lower half
 unfoldable pub list_start : ℕ → ℕ → Option ListStart
 list_start left b = list_by_kind left b (kind_of (b % 16))
 

@@ -7,10 +7,13 @@ use Rattle.thrift_compact.specs.declared.kind.Kind.{Kind}
 use Rattle.thrift_compact.specs.declared.tree.Node.{Node, out-Node}
 use Rattle.thrift_compact.specs.declared.tree.Node.TheOpen.{Node-F}
 use Rattle.thrift_compact.specs.declared.tree.Field.{Field, out-Field}
+use Rattle.thrift_compact.specs.declared.tree.TheConstants.{MAX_INNER}
 
 -- a whole number fits its width, which is 8, 16, 32 or 64 bits
 abbrev pub IsWholeOf : ℕ → ℤ → Type 0
-IsWholeOf width z = ((width ≡ 8) × FitsSigned w8 z) ⊎ (((width ≡ 16) × FitsSigned w16 z) ⊎ (((width ≡ 32) × FitsSigned w32 z) ⊎ ((width ≡ 64) × FitsSigned w64 z)))
+IsWholeOf width z =
+    ((width ≡ 8) × FitsSigned w8 z)
+    ⊎ (((width ≡ 16) × FitsSigned w16 z) ⊎ (((width ≡ 32) × FitsSigned w32 z) ⊎ ((width ≡ 64) × FitsSigned w64 z)))
 
 -- a value that holds no others; only a whole number has a width
 abbrev pub IsPlain : ℕ → Node-F Node Field → Type 0
@@ -61,7 +64,7 @@ unfoldable pub IsWritableValue : ℕ → ℕ → Node → Type 0
 IsWritableValue zero width node = IsPlain width (out-Node node)
 IsWritableValue (suc left) width node = IsLevel (IsWritableValue left) width (out-Node node)
 
--- A tree that is written: it holds no map and no list or set within a list or a set, each list holds one type, its whole numbers fit
--- their width, and it nests at most 64 deep.
+-- A tree that is written: it holds no map and no list or set within a list or a set, each list holds one type, its
+-- whole numbers fit their width, and it nests no deeper than what is read.
 abbrev pub IsWritable : List Field → Type 0
-IsWritable tree = AllByRecursion (IsField (IsWritableValue 63)) tree
+IsWritable tree = AllByRecursion (IsField (IsWritableValue MAX_INNER)) tree

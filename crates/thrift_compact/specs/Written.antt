@@ -15,7 +15,9 @@ use Rattle.thrift_compact.specs.declared.tree.Field.{Field, fold-Field}
 -- seven bits a byte, the lowest first, and at most so many bytes before the last
 unfoldable pub varint_of : ℕ → ℕ → List ℕ
 varint_of zero number = number ∷ []
-varint_of (suc more) number = if nat_lt number 128 then number ∷ [] else (number % 128 + 128) ∷ varint_of more (number / 128)
+varint_of (suc more) number =
+    if nat_lt number 128 then number ∷ []
+    else (number % 128 + 128) ∷ varint_of more (number / 128)
 
 -- a varint of as few bytes as the number needs
 abbrev pub varint : ℕ → List ℕ
@@ -26,11 +28,16 @@ abbrev pub whole : ℕ → ℤ → List ℕ
 whole width z = if width == 8 then (cast_unsigned w64 z % 256) ∷ [] else varint (zigzag z)
 
 abbrev pub whole_kind : ℕ → Kind
-whole_kind width = if width == 8 then kind.I8 else if width == 16 then kind.I16 else if width == 32 then kind.I32 else kind.I64
+whole_kind width =
+    if width == 8 then kind.I8
+    else if width == 16 then kind.I16
+    else if width == 32 then kind.I32
+    else kind.I64
 
 -- ---- values
 
--- A value as it is written: its type and its bytes as an element, and the type by which a field tells it without bytes, if it is a truth value.
+-- A value as it is written: its type and its bytes as an element, and the type by which a field tells it without
+-- bytes, if it is a truth value.
 pub record Form : Type 0 where
   pub kind : Kind
   pub told : Option Kind

@@ -13,7 +13,7 @@ mod value;
 mod write;
 
 pub use fault::ThriftFault;
-pub use number::read_varint;
+pub use number::{MAX_BYTES, read_varint};
 pub use read::read_struct;
-pub use tree::{Blob, Field, Node, NodePairs, Nodes, Tree};
+pub use tree::{Blob, Field, MAX_INNER, Node, NodePairs, Nodes, Tree};
 pub use write::write_struct;

@@ -9,7 +9,7 @@ use crate::cursor::Cursor;
 use crate::fault::Fault;
 
 /// How many bytes a varint has at most.
-const MAX_BYTES: u32 = 10;
+pub const MAX_BYTES: u32 = 10;
 
 /// A varint below 2 to the width. A bit at or past the width is refused at its byte.
 pub(crate) fn varint(cursor: &mut Cursor<'_>, width: u32) -> Result<u64, Fault>

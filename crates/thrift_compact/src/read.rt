@@ -12,13 +12,10 @@ use crate::fault::{Fault, ThriftFault};
 use crate::header::{EntryKinds, FieldHeader, ListHeader, may_stand};
 use crate::kind::Kind;
 use crate::number::{id, varint, whole};
-use crate::tree::{Blob, Field, Node, NodePairs, Nodes, Tree, last_id};
+use crate::tree::{Blob, Field, MAX_INNER, Node, NodePairs, Nodes, Tree, last_id};
 use crate::value::{Value, list_width};
 use sqlite_items::Items;
 use std::alloc::Global;
-
-/// How many structs, lists, sets and maps may be open in the outermost struct.
-const MAX_INNER: usize = 63;
 
 fn double(cursor: &mut Cursor<'_>) -> Result<[u8; 8], Fault>
     ensures { StepsOnlyTo (spec.exactly 8 cursor.old) result cursor.new }

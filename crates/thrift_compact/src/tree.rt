@@ -4,6 +4,9 @@ ghost use Rattle.thrift_compact.specs.Reading.{last_id as id_of_last};
 
 use sqlite_items::Items;
 
+/// How many structs, lists, sets and maps may be open in the outermost struct.
+pub const MAX_INNER: usize = 63;
+
 /// Bytes of a binary value.
 pub type Blob = Items<u8>;
 
