@@ -334,7 +334,9 @@ fn leaves_share_the_name_at_the_top(rt: HostRuntime) -> Result<(), Fail> {
     let footer = read_footer(rt.alloc(), &long_footer(rt.alloc())?)?;
     assert_eq!(rt; footer.leaves.len(), 65_536);
     let last = footer.leaves.as_slice().last().ok_or("no leaf")?;
-    assert_eq!(rt; last.name.as_slice().len(), 524_288);
+    let name = vec![in rt.alloc(); b'n'; 524_288]?;
+    assert!(rt; last.name.as_slice() == name.as_slice());
+    assert!(rt; last.name.clone()?.as_slice() == name.as_slice());
     assert!(rt; !last.top);
     Ok(())
 }
