@@ -1,5 +1,6 @@
 -- The fields of a Thrift struct, and what their values must be.
-use Rattle.std.specs.Prelude.{⊤, ℕ, ℤ, pos, negsuc, int_le, ◌==◌, ◌&&◌, Bool, true, false, if◌then◌else◌, List, [], ◌∷◌, map, reverse, find, Option, Some, None, option_map}
+use Rattle.std.specs.Prelude.{⊤, ℕ, ℤ, pos, negsuc, int_le, ◌==◌, ◌&&◌, Bool, true, false, if◌then◌else◌, List, []}
+use Rattle.std.specs.Prelude.{◌∷◌, map, reverse, find, Option, Some, None, option_map}
 use Rattle.std.specs.List.{list_any, list_all}
 use Rattle.std.specs.Ordering.{int_eq}
 use Rattle.dm_types.specs.Then.{◌>>=◌}

@@ -1,6 +1,7 @@
 -- The leaves of a schema, whose elements are those of a tree in preorder by num_children
 -- (parquet.thrift, FileMetaData.schema).
-use Rattle.std.specs.Prelude.{ℕ, zero, suc, ℤ, pos, negsuc, ◌+◌, ◌==◌, nat_lt, nat_le, Bool, true, false, if◌then◌else◌, List, [], ◌∷◌, ◌++◌, Option, Some, None, option_map, unwrap_or}
+use Rattle.std.specs.Prelude.{ℕ, zero, suc, ℤ, pos, negsuc, ◌+◌, ◌==◌, nat_lt, nat_le, Bool, true, false}
+use Rattle.std.specs.Prelude.{if◌then◌else◌, List, [], ◌∷◌, ◌++◌, Option, Some, None, option_map, unwrap_or}
 use Rattle.dm_types.specs.Then.{◌>>=◌}
 use Rattle.parquet_meta.specs.declared.elements.Element.{Element}
 use Rattle.parquet_meta.specs.declared.metadata.LeafSchema.{LeafSchema}

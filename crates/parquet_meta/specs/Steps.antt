@@ -1,5 +1,6 @@
 -- What the steps of reading a schema and of building trees ensure; no public clause cites them.
-use Rattle.std.specs.Prelude.{◌≡◌, ⊤, ℕ, pos, ◌++◌, Bool, List, IfSome, FitsSigned, Some, None, option_map, Result, Ok, Err}
+use Rattle.std.specs.Prelude.{◌≡◌, ⊤, ℕ, pos, ◌++◌, Bool, List, IfSome, FitsSigned, Some, None, option_map, Result}
+use Rattle.std.specs.Prelude.{Ok, Err}
 use Rattle.std.specs.Int.{w32, w64}
 use Rattle.std.specs.List.{AllByRecursion}
 use Rattle.dm_types.specs.Then.{◌>>=◌}

@@ -1,5 +1,6 @@
 -- The trees that are written. Each line of a table is a field, with its id, and its name in parquet.thrift behind it.
-use Rattle.std.specs.Prelude.{ℕ, ℤ, pos, ◌==◌, Bool, if◌then◌else◌, List, [], ◌∷◌, ◌++◌, length, map, codes, Option, Some, None, option_map}
+use Rattle.std.specs.Prelude.{ℕ, ℤ, pos, ◌==◌, Bool, if◌then◌else◌, List, [], ◌∷◌, ◌++◌, length, map, codes, Option}
+use Rattle.std.specs.Prelude.{Some, None, option_map}
 use Rattle.std.specs.Ordering.{int_eq}
 use Rattle.thrift_compact.specs.declared.tree.Node.{Node}
 use Rattle.thrift_compact.specs.declared.tree.Node.TheVariants as n

@@ -2,7 +2,8 @@
 ghost use Rattle.std.specs.Prelude.{◌≡◌, ◌++◌, ◌∷◌, ◌<◌, ◌^◌, [], pos, map, length, codes, Some, IfOk, OnOk};
 ghost use Rattle.std.specs.List.{AllByRecursion};
 ghost use Rattle.thrift_compact.specs.declared.tree.Node.TheVariants as n;
-ghost use Rattle.parquet_meta.specs.Written.{inner, fields_of, entry, nodes, whole_list, root_table, leaf_table, column_table, chunk_table, group_table, footer_fields};
+ghost use Rattle.parquet_meta.specs.Written.{inner, fields_of, entry, nodes, whole_list, root_table, leaf_table};
+ghost use Rattle.parquet_meta.specs.Written.{column_table, chunk_table, group_table, footer_fields};
 ghost use Rattle.parquet_meta.specs.Steps.{LeafFits, ChunkFits, GroupFits, FooterFits};
 
 use crate::building::{Written, append_nodes, put, put_list, put_maybe, put_node};

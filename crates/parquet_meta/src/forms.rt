@@ -1,8 +1,13 @@
 // The fields of a struct, by their ids and forms.
-ghost use Rattle.std.specs.Prelude.{◌≡◌, ◌==◌, ◌&&◌, if◌then◌else◌, None, ℕ, ℤ, Bool, Option, Some, is_some, option_map, map, reverse, find};
+ghost use Rattle.std.specs.Prelude.{◌≡◌, ◌==◌, ◌&&◌, if◌then◌else◌, None, ℕ, ℤ, Bool, Option, Some, is_some};
+ghost use Rattle.std.specs.Prelude.{option_map, map, reverse, find};
 ghost use Rattle.thrift_compact.specs.declared.tree.Node.{Node as ANode, out-Node};
 ghost use Rattle.parquet_meta.specs.Gives.{Gives};
-ghost use Rattle.parquet_meta.specs.Forms.{last_field, last_among as id_among, needed as needed_of, optional as optional_of, checked as checked_of, i32 as i32_of, i64 as i64_of, binary as binary_of, each, list as list_of, struct as struct_of, struct_in as fields_in, is_i32, is_struct as is_struct_of, has_shape_by};
+ghost use Rattle.parquet_meta.specs.Forms.{last_field, last_among as id_among, needed as needed_of};
+ghost use Rattle.parquet_meta.specs.Forms.{optional as optional_of, checked as checked_of, i32 as i32_of};
+ghost use Rattle.parquet_meta.specs.Forms.{i64 as i64_of, binary as binary_of, each, list as list_of};
+ghost use Rattle.parquet_meta.specs.Forms.{struct as struct_of, struct_in as fields_in, is_i32};
+ghost use Rattle.parquet_meta.specs.Forms.{is_struct as is_struct_of, has_shape_by};
 ghost use Rattle.std.specs.Option.{option_copied};
 ghost use Rattle.std.specs.List.{list_all};
 

@@ -1,7 +1,8 @@
 // The trees of leaves.
 ghost use Rattle.std.specs.Prelude.{◌≡◌, ◌++◌, ◌∷◌, [], pos, Some, IfOk, OnOk, option_map};
 ghost use Rattle.thrift_compact.specs.declared.tree.Node.TheVariants as n;
-ghost use Rattle.parquet_meta.specs.Written.{inner, fields_of, entry, unit_content, logical_content, told_length as told_length_of, repetition_by, leaf_table};
+ghost use Rattle.parquet_meta.specs.Written.{inner, fields_of, entry, unit_content, logical_content};
+ghost use Rattle.parquet_meta.specs.Written.{told_length as told_length_of, repetition_by, leaf_table};
 ghost use Rattle.parquet_meta.specs.Steps.{LogicalFits, LeafFits};
 
 use crate::building::{Written, put, put_maybe, put_node};

@@ -1,7 +1,8 @@
 // The leaves of a schema, from its elements.
 ghost use Rattle.std.specs.Prelude.{◌≡◌, ◌<◌, ◌≤◌, ◌+◌, ◌++◌, length, option_map, option_and_then, IfSome, IfNone};
 ghost use Rattle.parquet_meta.specs.Gives.{Gives};
-ghost use Rattle.parquet_meta.specs.Leaves.{up_to as number_up_to, count_of, is_long_enough, leaf_of, own_leaves, leaves_of, schema_leaves as leaves_of_schema};
+ghost use Rattle.parquet_meta.specs.Leaves.{up_to as number_up_to, count_of, is_long_enough, leaf_of, own_leaves};
+ghost use Rattle.parquet_meta.specs.Leaves.{leaves_of, schema_leaves as leaves_of_schema};
 ghost use Rattle.parquet_meta.specs.Steps.{AddsOwn};
 
 use crate::elements::Element;

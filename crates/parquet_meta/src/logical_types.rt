@@ -2,7 +2,8 @@
 ghost use Rattle.std.specs.Prelude.{◌≡◌};
 ghost use Rattle.parquet_meta.specs.Gives.{Gives};
 ghost use Rattle.parquet_meta.specs.Forms.{struct};
-ghost use Rattle.parquet_meta.specs.Logicals.{decimal_of, unit_by, unit_of, number_of, timestamp_of, scale_of, unit_number, logical_by, logical_of};
+ghost use Rattle.parquet_meta.specs.Logicals.{decimal_of, unit_by, unit_of, number_of, timestamp_of, scale_of};
+ghost use Rattle.parquet_meta.specs.Logicals.{unit_number, logical_by, logical_of};
 
 use crate::fault::MetaFault;
 use crate::forms::{Form, Shape, checked, last_among, optional, struct_in};

@@ -3,7 +3,9 @@ ghost use Rattle.std.specs.Prelude.{◌≡◌, pos, length, zip};
 ghost use Rattle.std.specs.List.{list_all};
 ghost use Rattle.std.specs.Int.Signed.{le_z};
 ghost use Rattle.parquet_meta.specs.Gives.{Gives};
-ghost use Rattle.parquet_meta.specs.Meaning.{is_chunk as is_chunk_of, groups_fit as groups_fit_of, has_chunks as has_chunks_of, rows_add_up as rows_add_up_of, footer_of, footer_in, page_header_in};
+ghost use Rattle.parquet_meta.specs.Meaning.{is_chunk as is_chunk_of, groups_fit as groups_fit_of};
+ghost use Rattle.parquet_meta.specs.Meaning.{has_chunks as has_chunks_of, rows_add_up as rows_add_up_of, footer_of};
+ghost use Rattle.parquet_meta.specs.Meaning.{footer_in, page_header_in};
 
 use crate::elements::Element;
 use crate::fault::MetaFault;
