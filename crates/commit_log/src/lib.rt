@@ -9,6 +9,3 @@ mod puts;
 pub use fault::CommitFault;
 pub use new_files::NewFiles;
 pub use puts::commit;
-
-#[cfg(test)]
-mod tests;

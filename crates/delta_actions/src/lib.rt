@@ -23,6 +23,3 @@ pub use laws::{first_bad_line, good_forms, good_lines};
 pub use mark::row_id_mark;
 pub use removal::remove_file;
 pub use writing::write_commit;
-
-#[cfg(test)]
-mod tests;

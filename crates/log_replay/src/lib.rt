@@ -14,6 +14,3 @@ pub use laws::{forms_of_live, live_after_commit, members_decide, removal_of_all}
 pub use live::live_paths;
 pub use numbers::{NumberFault, check_numbers};
 pub use snapshot::{LiveFiles, ReplayFault, Snapshot, replay};
-
-#[cfg(test)]
-mod tests;

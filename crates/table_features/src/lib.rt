@@ -5,6 +5,3 @@ mod checks;
 mod known;
 
 pub use checks::{FeatureFault, check_read, check_write};
-
-#[cfg(test)]
-mod tests;

@@ -1,5 +1,5 @@
 use Rattle.log_replay.specs.Live.{AreNumbered}
-use Rattle.log_replay.proofs.tests.log_of.Goals as goal
+use Rattle.log_tests.proofs.tests.replayed.log_of.Goals as goal
 
 pub loop-text-init : goal.loop-text-init
 unfolding AreNumbered

@@ -2,9 +2,11 @@
 ghost use Rattle.std.specs.Prelude.{IfOk};
 ghost use Rattle.log_replay.specs.Live.{AreNumbered};
 
-use crate::{Commits, NumberFault, ReplayFault, check_numbers, live_paths, push_commit, replay};
 use delta_actions::{Action, Actions, AddAction, RemoveAction, read_commit};
 use dm_types::{Text, TextList};
+use log_replay::{
+    Commits, NumberFault, ReplayFault, check_numbers, live_paths, push_commit, replay,
+};
 use std::alloc::{AllocError, Global};
 use std::process::Abort;
 use std::test::Fail;

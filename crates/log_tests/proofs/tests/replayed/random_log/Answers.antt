@@ -1,5 +1,5 @@
 use Rattle.log_replay.specs.Live.{AreNumbered}
-use Rattle.log_replay.proofs.tests.random_log.Goals as goal
+use Rattle.log_tests.proofs.tests.replayed.random_log.Goals as goal
 
 pub loop-init : goal.loop-init
 unfolding AreNumbered

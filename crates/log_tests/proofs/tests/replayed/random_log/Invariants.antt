@@ -1,5 +1,5 @@
 use Rattle.log_replay.specs.Live.{AreNumbered}
-use Rattle.log_replay.proofs.tests.random_log.Given as goal
+use Rattle.log_tests.proofs.tests.replayed.random_log.Given as goal
 
 abbrev pub invariant-loop : goal.invariant-loop
 invariant-loop l = AreNumbered 0 l.commits

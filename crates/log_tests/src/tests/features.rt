@@ -1,10 +1,10 @@
 // Protocols by hand.
-use crate::{FeatureFault, check_read, check_write};
 use delta_actions::ProtocolAction;
 use dm_types::{Text, TextList};
 use std::alloc::{AllocError, Global};
 use std::process::Abort;
 use std::test::Fail;
+use table_features::{FeatureFault, check_read, check_write};
 
 fn names_of(alloc: Global, names: &[&str]) -> Result<TextList, AllocError> {
     let mut list = TextList::new(alloc);

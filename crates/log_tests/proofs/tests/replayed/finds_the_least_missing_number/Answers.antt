@@ -1,6 +1,6 @@
 use Rattle.std.proofs.Common.{rules}
 use Rattle.std.specs.List.Sorted.{IsStrictlySortedBy}
-use Rattle.log_replay.proofs.tests.finds_the_least_missing_number.Goals as goal
+use Rattle.log_tests.proofs.tests.replayed.finds_the_least_missing_number.Goals as goal
 
 pub check_numbers-requires : goal.check_numbers-requires
 unfolding IsStrictlySortedBy

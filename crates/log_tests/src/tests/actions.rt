@@ -1,5 +1,5 @@
 // Commits as other writers make them, lines that are no action, and the lines of this writer.
-use crate::{
+use delta_actions::{
     Action, ActionFault, Actions, AddAction, DomainAction, InfoAction, read_commit, remove_file,
     row_id_mark, write_commit,
 };

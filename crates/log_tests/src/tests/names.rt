@@ -1,7 +1,7 @@
 // Names of commit files.
-use crate::{commit_path, log_folder, version_of};
 use dm_types::Text;
 use std::test::Fail;
+use table_log::{commit_path, log_folder, version_of};
 
 #[test]
 fn commit_files_are_named_by_twenty_digits(rt: HostRuntime) -> Result<(), Fail> {

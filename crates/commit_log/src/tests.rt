@@ -1,1 +1,0 @@
-// The files of a new version, and what stops them.
