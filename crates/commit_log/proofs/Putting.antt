@@ -7,8 +7,9 @@ use Rattle.std.proofs.lemmas.List.{append-nil, take_more}
 use Rattle.std.proofs.lemmas.Map.Keys.{IsDistinct-tail, apart_from_distinct}
 use Rattle.std.proofs.lemmas.Slice.Eq.{bytes_eq-Decides}
 use Rattle.dm_store.specs.Files.{Files, lookup, WhereTold, appended, IsAbsent, IsPresent}
-use Rattle.commit_log.specs.Block.{whole_path, placed, whole_paths, with_paths, files_of, block_of, commit_file, AreApart, IsFresh}
-use Rattle.commit_log.specs.Commits.{AllPut, SomePut, IsFirstTaken, PutsFile, PutsFiles, PutsCommit, Commits}
+use Rattle.commit_log.specs.Block.{whole_path, placed, whole_paths, files_of, block_of, commit_file, AreApart, IsFresh}
+use Rattle.commit_log.specs.Commits.{AllPut, SomePut, IsFirstTaken, Commits}
+use Rattle.commit_log.specs.StepsPutting.{PutsFile, PutsFiles, PutsCommit, with_paths}
 use Rattle.commit_log.specs.declared.new_files.NewFiles.{NewFiles}
 use Rattle.commit_log.specs.declared.fault.CommitFault.{CommitFault}
 use Rattle.commit_log.specs.declared.fault.CommitFault.TheVariants as fault

@@ -14,12 +14,6 @@ whole_path table path = table ++ 47 ∷ path
 abbrev pub whole_paths : NewFiles → List (List ℕ)
 whole_paths fresh = map (λ file. whole_path fresh.table file.0) fresh.files
 
--- the files under other paths
-abbrev pub with_paths : List (List ℕ) → Files → Files
-with_paths [] files = []
-with_paths (path ∷ paths) [] = []
-with_paths (path ∷ paths) (file ∷ files) = (path, file.1) ∷ with_paths paths files
-
 abbrev pub placed : List ℕ → List ℕ × List ℕ → List ℕ × List ℕ
 placed table file = (whole_path table file.0, file.1)
 

@@ -1,7 +1,7 @@
 -- What putting a new version does.
-use Rattle.std.specs.Prelude.{◌≡◌, ◌⊎◌, ℕ, ◌<◌, List, [], ◌∷◌, length, take, get_or, Option, Result, Ok, Err, ⊤}
+use Rattle.std.specs.Prelude.{◌≡◌, ℕ, ◌<◌, List, [], length, take, get_or, Option, Result, Ok, Err, ⊤}
 use Rattle.dm_store.specs.Causes.{Rose}
-use Rattle.dm_store.specs.Files.{Files, WhereTold, appended, IsAbsent, IsPresent}
+use Rattle.dm_store.specs.Files.{Files, WhereTold, appended, IsPresent}
 use Rattle.dm_types.specs.declared.refusal.Refused.TheVariants as refused
 use Rattle.dm_types.specs.declared.refusal.PutRefusal.TheVariants as clash
 use Rattle.dm_types.specs.declared.refusal.Stop.{Stop}
@@ -13,8 +13,6 @@ use Rattle.table_log.specs.Log.{commit_path}
 use Rattle.commit_log.specs.declared.new_files.NewFiles.{NewFiles}
 use Rattle.commit_log.specs.declared.fault.CommitFault.{CommitFault}
 use Rattle.commit_log.specs.declared.fault.CommitFault.TheVariants as fault
-use Rattle.commit_log.specs.declared.puts.FileFault.{FileFault}
-use Rattle.commit_log.specs.declared.puts.FileFault.TheVariants as file
 use Rattle.commit_log.specs.Block.{files_of, block_of, IsFresh}
 
 -- these files were put, and none of their paths was there
@@ -41,7 +39,8 @@ pub record IsOvertaken (fresh : NewFiles) (old now : Option Files) : Type 0 wher
 -- putting the files of a new version
 abbrev pub Commits : NewFiles → Option Files → Option Files → Result ℕ CommitFault → Type 0
 Commits fresh old now (Ok version) = (version ≡ fresh.version) × AllPut (block_of fresh) old now
-Commits fresh old now (Err (fault.NameTaken path)) = (index : ℕ) × IsFirstTaken (files_of fresh) index old now × (path ≡ (get_or (files_of fresh) index ([], [])).0)
+Commits fresh old now (Err (fault.NameTaken path)) =
+    (index : ℕ) × IsFirstTaken (files_of fresh) index old now × (path ≡ (get_or (files_of fresh) index ([], [])).0)
 Commits fresh old now (Err (fault.VersionTaken version)) = (version ≡ fresh.version) × IsOvertaken fresh old now
 Commits fresh old now (Err fault.Failed) = SomePut (block_of fresh) old now
 Commits fresh old now (Err fault.Memory) = SomePut (files_of fresh) old now
@@ -78,35 +77,3 @@ stop_of (fault.NameTaken path) = stop.Refused (refused.Put (clash.NameTaken path
 stop_of (fault.VersionTaken version) = stop.Refused (refused.Put (clash.VersionTaken version))
 stop_of fault.Failed = stop.Store
 stop_of fault.Memory = stop.Memory
-
--- putting files that aren't the commit file
-abbrev pub PutsFiles : Files → Option Files → Option Files → Result (Unit {0}) FileFault → Type 0
-PutsFiles block old now (Ok _) = AllPut block old now
-PutsFiles block old now (Err (file.Exists index)) = IsFirstTaken block index old now
-PutsFiles block old now (Err file.Failed) = SomePut block old now
-PutsFiles block old now (Err file.Memory) = SomePut block old now
-
--- putting one of them
-abbrev pub PutsFile : ℕ → List ℕ → List ℕ → Option Files → Option Files → Result (Unit {0}) FileFault → Type 0
-PutsFile index path bytes old now (Ok _) = IsAbsent path old × (now ≡ appended old ((path, bytes) ∷ []))
-PutsFile index path bytes old now (Err (file.Exists at)) = (at ≡ index) × IsPresent path old × (now ≡ old)
-PutsFile index path bytes old now (Err file.Failed) = IsAbsent path old × ((now ≡ old) ⊎ (now ≡ appended old ((path, bytes) ∷ [])))
-PutsFile index path bytes old now (Err file.Memory) = IsAbsent path old × (now ≡ old)
-
-abbrev pub PutCause : FileFault → ℕ → ℕ → Type 0
-PutCause (file.Exists index) before now = now ≡ before
-PutCause file.Failed before now = Rose before now
-PutCause file.Memory before now = now ≡ before
-
-abbrev pub PutTaken : FileFault → ℕ → ℕ → Type 0
-PutTaken (file.Exists index) before now = Rose before now
-PutTaken file.Failed before now = now ≡ before
-PutTaken file.Memory before now = now ≡ before
-
--- putting the commit file
-abbrev pub PutsCommit : ℕ → List ℕ → List ℕ → Option Files → Option Files → Result ℕ CommitFault → Type 0
-PutsCommit version path bytes old now (Ok found) = (found ≡ version) × IsAbsent path old × (now ≡ appended old ((path, bytes) ∷ []))
-PutsCommit version path bytes old now (Err (fault.NameTaken taken)) = ⊥
-PutsCommit version path bytes old now (Err (fault.VersionTaken found)) = (found ≡ version) × IsPresent path old × (now ≡ old)
-PutsCommit version path bytes old now (Err fault.Failed) = IsAbsent path old × ((now ≡ old) ⊎ (now ≡ appended old ((path, bytes) ∷ [])))
-PutsCommit version path bytes old now (Err fault.Memory) = IsAbsent path old × (now ≡ old)

@@ -3,7 +3,7 @@ use delta_actions::Actions;
 use dm_types::{PathBytes, Text};
 
 /// The files of a new version, and the actions of its commit file.
-#[derive(Debug, Drop)]
+#[derive(Drop)]
 pub struct NewFiles {
     /// The new version.
     pub version: u64,

@@ -3,8 +3,9 @@ ghost use Rattle.std.specs.Prelude.{◌≡◌, ◌<◌, [], length, get_or, IfOk
 ghost use Rattle.std.specs.List.{IsDistinct};
 ghost use Rattle.std.specs.Str.{bytes_eq};
 ghost use Rattle.dm_store.specs.Causes.{Counts};
-ghost use Rattle.commit_log.specs.Block.{AreApart, whole_path, whole_paths, with_paths};
-ghost use Rattle.commit_log.specs.Commits.{Commits, IsBuilt, CommitCause, CommitTaken, PutsFile, PutsFiles, PutCause, PutTaken, PutsCommit};
+ghost use Rattle.commit_log.specs.Block.{AreApart, whole_path, whole_paths};
+ghost use Rattle.commit_log.specs.Commits.{Commits, IsBuilt, CommitCause, CommitTaken};
+ghost use Rattle.commit_log.specs.StepsPutting.{PutsFile, PutsFiles, PutCause, PutTaken, PutsCommit, with_paths};
 ghost use Rattle.commit_log.specs.declared.fault.CommitFault.TheVariants.{NameTaken};
 
 use crate::fault::CommitFault;
@@ -16,7 +17,7 @@ use std::alloc::{AllocError, Global};
 use table_log::commit_path;
 
 // Why a file before the commit file wasn't put.
-#[derive(Clone, Copy, Debug, PartialEq, Eq)]
+#[derive(Drop)]
 pub(crate) enum FileFault {
     // The path at this place is taken.
     Exists { index: usize },

@@ -24,7 +24,7 @@ use Rattle.delta_actions.specs.declared.action.InfoAction.{InfoAction}
 use Rattle.delta_actions.specs.Forms.{unless_null, present, maybe, needed, optional, whole, version, text_or_null, each_item, each_member, texts, pairs}
 use Rattle.delta_actions.specs.Meaning.{parquet, format_of, protocol_of, metadata_of, data_change_of, add_of, remove_of, cdc_of, mark_of, tracks, domain_of, info_of}
 use Rattle.delta_actions.specs.Written.{integer, texts_data, or_null, pairs_onto, pairs_data, Fields, put_some, members_onto, object_of, features_data, protocol_fields, format_fields, format_data, metadata_fields, add_fields, remove_fields, cdc_fields, domain_fields, info_fields}
-use Rattle.delta_actions.specs.Wholes.{IsWhole, AddHasWholes, RemoveHasWholes}
+use Rattle.delta_actions.specs.StepsWriting.{IsWhole, AddHasWholes, RemoveHasWholes}
 use Rattle.delta_actions.specs.Writable.{AreOrdered, IsProtocol, IsFormat, IsMetadata, IsDomain}
 use Rattle.delta_actions.proofs.Maybe.{if_all, if_each}
 

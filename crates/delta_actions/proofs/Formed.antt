@@ -223,6 +223,7 @@ domain_steps d =
     pass (optional as_bool (codes "removed") d) (λ removed. record { it = domain_by (record { domain = domain; configuration = configuration; removed = removed }) _ _ refl refl })))
 
 action_formed : (name : List ℕ) (d : Data) → IsSorted d → IfSome (action_of name d) HasForm
+unfolding action_of
 action_formed name d h =
     if_cond HasForm (bytes_eq name (codes "protocol")) _ _ (if_map IsProtocol HasForm action.Protocol (protocol_of d) (λ p f. f) (protocol_steps d).it)
     (if_cond HasForm (bytes_eq name (codes "metaData")) _ _ (if_map IsMetadata HasForm action.Metadata (metadata_of d) (λ m f. f) (metadata_steps d h).it)

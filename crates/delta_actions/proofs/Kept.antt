@@ -11,7 +11,7 @@ use Rattle.delta_actions.specs.declared.action.Action.{Action}
 use Rattle.delta_actions.specs.declared.action.Action.TheVariants as action
 use Rattle.delta_actions.specs.Written.{integer, texts_data, or_null, pairs_onto, pairs_data, Fields, put_some, members_onto, object_of, features_data, protocol_fields, format_fields, format_data, metadata_fields, add_fields, remove_fields, cdc_fields, domain_fields, info_fields, named, line_data}
 use Rattle.delta_actions.specs.Writable.{HasForm}
-use Rattle.delta_actions.specs.Wholes.{IsWhole, HasWholes}
+use Rattle.delta_actions.specs.StepsWriting.{IsWhole, HasWholes}
 use Rattle.delta_actions.proofs.Maybe.{if_map_all, if_map}
 
 if_features : (P : Data → Type 0) (listed : Bool) (ts : List (List ℕ)) → P (texts_data ts) → IfSome (features_data listed ts) P
@@ -71,6 +71,7 @@ format_none : (f : TableFormat) → HasNone (format_data f)
 format_none f = fields_none (format_fields f) (if_map_all HasNone (pairs_data string) f.options (pairs_none string (λ t. refl)), (if_map_all HasNone string f.provider (λ t. refl), tt))
 
 pub line_none : (a : Action) → IfSome (line_data a) HasNone
+unfolding line_data
 line_none (action.Protocol p) =
     named_none (codes "protocol") (protocol_fields p) (refl, (refl, (if_features HasNone _ p.reader_features (texts_none p.reader_features), (if_features HasNone _ p.writer_features (texts_none p.writer_features), tt))))
 line_none (action.Metadata m) =
@@ -167,6 +168,7 @@ features_plain : (listed : Bool) (ts : List (List ℕ)) → IfSome (features_dat
 features_plain listed ts = if_features P listed ts (texts_plain 125 (omega arith) ts)
 
 pub line_plain : (a : Action) → HasForm a → HasWholes a → IfSome (line_data a) (IsPlain 127)
+unfolding line_data
 line_plain (action.Protocol p) w h =
     named_plain (codes "protocol") (protocol_fields p) (omega (arith, w.reader), (omega (arith, w.writer), (features_plain _ p.reader_features, (features_plain _ p.writer_features, tt))))
 line_plain (action.Metadata m) w h =

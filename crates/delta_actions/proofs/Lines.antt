@@ -16,7 +16,7 @@ use Rattle.delta_actions.specs.declared.action.Action.{Action}
 use Rattle.delta_actions.specs.declared.action.Action.TheVariants as action
 use Rattle.delta_actions.specs.Meaning.{action_of, object_action, value_of, line_of, actions_of, lines, then_more, actions_from}
 use Rattle.delta_actions.specs.Written.{Fields, object_of, protocol_fields, metadata_fields, add_fields, remove_fields, cdc_fields, domain_fields, info_fields, named, line_data, line_text}
-use Rattle.delta_actions.specs.Wholes.{HasWholes}
+use Rattle.delta_actions.specs.StepsWriting.{HasWholes}
 use Rattle.delta_actions.specs.Writable.{IsWritable, AreWritable}
 use Rattle.delta_actions.proofs.Kept.{line_plain}
 use Rattle.delta_actions.proofs.Back.{protocol_back, metadata_back, add_back, remove_back, cdc_back, domain_back, info_back}
@@ -43,6 +43,7 @@ line_by k fs a plain utf8 is =
     ap one (by_value (compact_text d) d (value_back d plain utf8) ∙ is)
 
 line_back : (a : Action) → IsWritable a → HasWholes a → IsSpelled a → IfSome (line_data a) (λ d. actions_of (compact_text d) ≡ Some (a ∷ []))
+unfolding line_data action_of
 line_back (action.Protocol p) w h utf8 = line_by (codes "protocol") (protocol_fields p) (action.Protocol p) (line_plain (action.Protocol p) w.0 h) utf8 (ap (option_map action.Protocol) (protocol_back p w.0))
 line_back (action.Metadata m) w h utf8 = line_by (codes "metaData") (metadata_fields m) (action.Metadata m) (line_plain (action.Metadata m) w.0 h) utf8 (ap (option_map action.Metadata) (metadata_back m w.0 h))
 line_back (action.Add a) w h utf8 = line_by (codes "add") (add_fields a) (action.Add a) (line_plain (action.Add a) w.0 h) utf8 (ap (option_map action.Add) (add_back a w.0 w.1 h))
@@ -53,6 +54,7 @@ line_back (action.Info i) w h utf8 = line_by (codes "commitInfo") (info_fields i
 line_back action.Other w h utf8 = tt
 
 has_line : (a : Action) → IsWritable a → line_data a ≢ None
+unfolding line_data
 has_line (action.Protocol p) w e = cc
 has_line (action.Metadata m) w e = cc
 has_line (action.Add a) w e = cc

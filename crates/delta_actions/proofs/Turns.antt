@@ -5,7 +5,8 @@ use Rattle.delta_actions.specs.declared.action.Action.{Action}
 use Rattle.delta_actions.specs.declared.fault.ActionFault.{ActionFault}
 use Rattle.delta_actions.specs.declared.fault.ActionFault.TheVariants as fault
 use Rattle.delta_actions.specs.Meaning.{actions_of, then_more, with_line, actions_from}
-use Rattle.delta_actions.specs.Answers.{ReadsCommit, AddsLine}
+use Rattle.delta_actions.specs.Answers.{ReadsCommit}
+use Rattle.delta_actions.specs.StepsReading.{AddsLine}
 
 then_more-append : (a b : List Action) (r : Result (List Action) ℕ) → then_more a (then_more b r) ≡ then_more (a ++ b) r
 then_more-append a b (Ok more) = ap Ok (sym (append_assoc a b more))

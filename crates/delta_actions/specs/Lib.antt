@@ -4,5 +4,6 @@ pub mod Places
 pub mod Written
 pub mod Writable
 pub mod Removal
-pub mod Wholes
+pub mod StepsWriting
 pub mod Answers
+pub mod StepsReading

@@ -1,4 +1,5 @@
--- What the lines of a commit say (PROTOCOL.md, "Actions": each line of a commit file is a JSON object with one action).
+-- What the lines of a commit say (PROTOCOL.md, "Actions": each line of a commit file is a JSON object with one
+-- action).
 use Rattle.std.specs.Prelude.{ℕ, ◌+◌, ℤ, pos, negsuc, int_le, List, [], ◌∷◌, ◌++◌, Bool, true, false, not, Option, Some, None, option_map, is_some, unwrap_or, codes, ◌==◌, ◌&&◌, ◌||◌, Result, Ok, Err, if◌then◌else◌}
 use Rattle.std.specs.List.{list_all, slice_split}
 use Rattle.std.specs.Str.{bytes_eq, is_utf8}
@@ -27,7 +28,12 @@ protocol_of d = do
   writer ← needed version (codes "minWriterVersion") d
   readers ← optional texts (codes "readerFeatures") d
   writers ← optional texts (codes "writerFeatures") d
-  Some (record { min_reader_version = reader; min_writer_version = writer; reader_features = unwrap_or readers []; writer_features = unwrap_or writers [] })
+  Some (record {
+    min_reader_version = reader;
+    min_writer_version = writer;
+    reader_features = unwrap_or readers [];
+    writer_features = unwrap_or writers [];
+  })
 
 -- the one provider that is read
 abbrev pub parquet : Data → Option (List ℕ)
@@ -52,7 +58,16 @@ metadata_of d = do
   columns ← optional texts (codes "partitionColumns") d
   configuration ← optional (pairs as_str) (codes "configuration") d
   created ← optional whole (codes "createdTime") d
-  Some (record { id = id; name = name; description = description; format = format; schema_string = schema; partition_columns = columns; configuration = configuration; created_time = created })
+  Some (record {
+    id = id;
+    name = name;
+    description = description;
+    format = format;
+    schema_string = schema;
+    partition_columns = columns;
+    configuration = configuration;
+    created_time = created;
+  })
 
 -- rows change by the action, unless it says that they don't
 abbrev pub data_change_of : Data → Option Bool
@@ -71,7 +86,17 @@ add_of d = do
   stats ← optional as_str (codes "stats") d
   base ← optional whole (codes "baseRowId") d
   version ← optional whole (codes "defaultRowCommitVersion") d
-  Some (record { path = path; partition_values = values; size = unwrap_or size (pos 0); modification_time = unwrap_or time (pos 0); data_change = change; stats = stats; deletion_vector = is_some (present (codes "deletionVector") d); base_row_id = base; default_row_commit_version = version })
+  Some (record {
+    path = path;
+    partition_values = values;
+    size = unwrap_or size (pos 0);
+    modification_time = unwrap_or time (pos 0);
+    data_change = change;
+    stats = stats;
+    deletion_vector = is_some (present (codes "deletionVector") d);
+    base_row_id = base;
+    default_row_commit_version = version;
+  })
 
 -- `remove` (PROTOCOL.md, "Add File and Remove File")
 abbrev pub remove_of : Data → Option RemoveAction
@@ -84,7 +109,17 @@ remove_of d = do
   values ← optional (pairs text_or_null) (codes "partitionValues") d
   base ← optional whole (codes "baseRowId") d
   version ← optional whole (codes "defaultRowCommitVersion") d
-  Some (record { path = path; data_change = change; deletion_timestamp = time; size = size; extended_file_metadata = extended; partition_values = values; deletion_vector = is_some (present (codes "deletionVector") d); base_row_id = base; default_row_commit_version = version })
+  Some (record {
+    path = path;
+    data_change = change;
+    deletion_timestamp = time;
+    size = size;
+    extended_file_metadata = extended;
+    partition_values = values;
+    deletion_vector = is_some (present (codes "deletionVector") d);
+    base_row_id = base;
+    default_row_commit_version = version;
+  })
 
 -- `cdc` (PROTOCOL.md, "Add CDC File")
 abbrev pub cdc_of : Data → Option CdcAction
@@ -111,14 +146,18 @@ domain_of d = do
   domain ← needed as_str (codes "domain") d
   configuration ← needed as_str (codes "configuration") d
   removed ← optional as_bool (codes "removed") d
-  if tracks domain removed && not (is_some (mark_of configuration)) then None else Some (record { domain = domain; configuration = configuration; removed = removed })
+  if tracks domain removed && not (is_some (mark_of configuration)) then None
+      else Some (record { domain = domain; configuration = configuration; removed = removed })
 
 -- `commitInfo` (PROTOCOL.md, "Commit Provenance Information"), of any value: each member is read by itself
 abbrev pub info_of : Data → InfoAction
-info_of d = record { operation = unwrap_or (needed as_str (codes "operation") d) []; timestamp = unwrap_or (needed whole (codes "timestamp") d) (pos 0) }
+info_of d = record {
+  operation = unwrap_or (needed as_str (codes "operation") d) [];
+  timestamp = unwrap_or (needed whole (codes "timestamp") d) (pos 0);
+}
 
 -- the action of this name; actions of other names have any value
-abbrev pub action_of : List ℕ → Data → Option Action
+unfoldable pub action_of : List ℕ → Data → Option Action
 action_of name d =
     if bytes_eq name (codes "protocol") then option_map action.Protocol (protocol_of d)
     else if bytes_eq name (codes "metaData") then option_map action.Metadata (metadata_of d)

@@ -146,7 +146,7 @@ abbrev pub named : List ℕ → Data → Data
 named name d = object (member name d no_members)
 
 -- the value on an action's line; an action of another kind has no line
-abbrev pub line_data : Action → Option Data
+unfoldable pub line_data : Action → Option Data
 line_data (action.Protocol p) = Some (named (codes "protocol") (object_of (protocol_fields p)))
 line_data (action.Metadata m) = Some (named (codes "metaData") (object_of (metadata_fields m)))
 line_data (action.Add a) = Some (named (codes "add") (object_of (add_fields a)))

@@ -12,7 +12,7 @@ fn same<T: Exact>(value: &T) -> Result<T, AllocError>
 }
 
 /// What a reader and a writer of the table must be able to do (PROTOCOL.md, "Protocol Evolution").
-#[derive(Clone, Debug, PartialEq, Eq, Drop)]
+#[derive(Clone, Drop)]
 pub struct ProtocolAction {
     /// The least version of a reader, from 0 to 2147483647.
     pub min_reader_version: u32,
@@ -31,7 +31,7 @@ impl Exact for ProtocolAction {
 }
 
 /// How data files are coded (PROTOCOL.md, "Format Specification").
-#[derive(Clone, Debug, PartialEq, Eq, Drop)]
+#[derive(Clone, Drop)]
 pub struct TableFormat {
     /// `parquet`, where it is there.
     pub provider: Option<Text>,
@@ -46,7 +46,7 @@ impl Exact for TableFormat {
 }
 
 /// The table's schema and properties (PROTOCOL.md, "Change Metadata").
-#[derive(Debug, PartialEq, Eq, Drop)]
+#[derive(Drop)]
 pub struct MetadataAction {
     /// The table's id. It may be any text.
     pub id: Text,
@@ -88,7 +88,7 @@ impl Exact for MetadataAction {
 }
 
 /// A data file that the table gets (PROTOCOL.md, "Add File and Remove File").
-#[derive(Clone, Debug, PartialEq, Eq, Drop)]
+#[derive(Clone, Drop)]
 pub struct AddAction {
     /// The path as it is logged: a URI reference, with its escapes.
     pub path: Text,
@@ -117,7 +117,7 @@ impl Exact for AddAction {
 }
 
 /// A data file that the table loses (PROTOCOL.md, "Add File and Remove File").
-#[derive(Clone, Debug, PartialEq, Eq, Drop)]
+#[derive(Drop)]
 pub struct RemoveAction {
     /// The path as it is logged: a URI reference, with its escapes.
     pub path: Text,
@@ -139,14 +139,8 @@ pub struct RemoveAction {
     pub default_row_commit_version: Option<i64>,
 }
 
-impl Exact for RemoveAction {
-    ghost use Rattle.std.proofs.Common.{rules};
-
-    ghost exact = { Prim.search rules };
-}
-
 /// A file of changed rows (PROTOCOL.md, "Add CDC File").
-#[derive(Clone, Debug, PartialEq, Eq, Drop)]
+#[derive(Drop)]
 pub struct CdcAction {
     /// The path as it is logged: a URI reference, with its escapes.
     pub path: Text,
@@ -156,14 +150,8 @@ pub struct CdcAction {
     pub size: Option<i64>,
 }
 
-impl Exact for CdcAction {
-    ghost use Rattle.std.proofs.Common.{rules};
-
-    ghost exact = { Prim.search rules };
-}
-
 /// The configuration of a domain (PROTOCOL.md, "Domain Metadata").
-#[derive(Clone, Debug, PartialEq, Eq, Drop)]
+#[derive(Drop)]
 pub struct DomainAction {
     /// The domain's name.
     pub domain: Text,
@@ -173,14 +161,8 @@ pub struct DomainAction {
     pub removed: Option<bool>,
 }
 
-impl Exact for DomainAction {
-    ghost use Rattle.std.proofs.Common.{rules};
-
-    ghost exact = { Prim.search rules };
-}
-
 /// Where a commit comes from (PROTOCOL.md, "Commit Provenance Information").
-#[derive(Clone, Debug, PartialEq, Eq, Drop)]
+#[derive(Drop)]
 pub struct InfoAction {
     /// The operation; empty where it is absent or no text.
     pub operation: Text,
@@ -188,14 +170,8 @@ pub struct InfoAction {
     pub timestamp: i64,
 }
 
-impl Exact for InfoAction {
-    ghost use Rattle.std.proofs.Common.{rules};
-
-    ghost exact = { Prim.search rules };
-}
-
 /// What a line of a commit says (PROTOCOL.md, "Actions").
-#[derive(Debug, PartialEq, Eq, Drop)]
+#[derive(Drop)]
 pub enum Action {
     /// `protocol`.
     Protocol(ProtocolAction),
@@ -213,27 +189,6 @@ pub enum Action {
     Info(InfoAction),
     /// `txn`, or an action of any other name.
     Other,
-}
-
-impl Clone for Action {
-    ghost is_clone = { λ x y. y ≡ x };
-
-    fn clone(&self) -> Result<Action, AllocError> {
-        Ok(match self {
-            Action::Protocol(protocol) => Action::Protocol(protocol.clone()?),
-            Action::Metadata(metadata) => Action::Metadata(metadata.clone()?),
-            Action::Add(add) => Action::Add(add.clone()?),
-            Action::Remove(remove) => Action::Remove(remove.clone()?),
-            Action::Cdc(cdc) => Action::Cdc(cdc.clone()?),
-            Action::Domain(domain) => Action::Domain(domain.clone()?),
-            Action::Info(info) => Action::Info(info.clone()?),
-            Action::Other => Action::Other,
-        })
-    }
-}
-
-impl Exact for Action {
-    ghost exact = { λ x y same. same };
 }
 
 /// The actions of a commit, in the order of its lines.

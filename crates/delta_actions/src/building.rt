@@ -2,7 +2,7 @@
 ghost use Rattle.std.specs.Prelude.{◌≡◌, IfOk, OnOk, IfSome, option_map};
 ghost use Rattle.serde_json.specs.Data.{Data, no_members, string, boolean, number, unsigned, put as put_member};
 ghost use Rattle.serde_json.specs.View.{view, members_view};
-ghost use Rattle.delta_actions.specs.Wholes.{IsWhole, HasWholes, AddHasWholes, RemoveHasWholes};
+ghost use Rattle.delta_actions.specs.StepsWriting.{IsWhole, HasWholes, AddHasWholes, RemoveHasWholes};
 ghost use Rattle.delta_actions.specs.Written.{integer, texts_data, or_null, pairs_data, put_some, object_of, named as named_data, features_data, protocol_fields, format_data, metadata_fields, add_fields, remove_fields, cdc_fields, domain_fields, info_fields, line_data};
 
 use crate::action::{

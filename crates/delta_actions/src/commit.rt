@@ -1,5 +1,6 @@
 // The lines of a commit.
-ghost use Rattle.delta_actions.specs.Answers.{ReadsCommit, AddsLine};
+ghost use Rattle.delta_actions.specs.Answers.{ReadsCommit};
+ghost use Rattle.delta_actions.specs.StepsReading.{AddsLine};
 ghost use Rattle.delta_actions.specs.Meaning.{actions_of, commit_of};
 
 use crate::action::Actions;

@@ -3,7 +3,7 @@ use std::alloc::AllocError;
 use thiserror::Error;
 
 /// Why a commit isn't read.
-#[derive(Clone, Copy, Debug, PartialEq, Eq, Error)]
+#[derive(Debug, Drop, Error)]
 pub enum ActionFault {
     /// A line is no action.
     #[error("line {line} is no action")]
@@ -28,7 +28,7 @@ impl From<AllocError> for ActionFault {
 }
 
 /// Why a line isn't read.
-#[derive(Clone, Copy, Debug, PartialEq, Eq)]
+#[derive(Drop)]
 pub(crate) enum Fault {
     /// It is no action.
     Bad,

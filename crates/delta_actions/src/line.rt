@@ -2,7 +2,7 @@
 ghost use Rattle.std.specs.Prelude.{◌≡◌, option_map};
 ghost use Rattle.std.specs.List.{list_all};
 ghost use Rattle.serde_json.specs.View.{view};
-ghost use Rattle.delta_actions.specs.Answers.{Gives};
+ghost use Rattle.delta_actions.specs.StepsReading.{Gives};
 ghost use Rattle.delta_actions.specs.Meaning.{only_member as only_member_of, object_action as object_action_of, line_of, is_space};
 
 use crate::action::Action;

@@ -2,7 +2,7 @@
 ghost use Rattle.std.specs.Prelude.{◌≡◌, IfOk, Some, is_some, option_map};
 ghost use Rattle.serde_json.specs.Read.{read as read_text};
 ghost use Rattle.serde_json.specs.View.{view};
-ghost use Rattle.delta_actions.specs.Answers.{Gives};
+ghost use Rattle.delta_actions.specs.StepsReading.{Gives};
 ghost use Rattle.delta_actions.specs.Meaning.{mark_of};
 
 use crate::action::DomainAction;

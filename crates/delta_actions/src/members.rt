@@ -4,7 +4,7 @@ ghost use Rattle.serde_json.specs.Data.{Data};
 ghost use Rattle.serde_json.specs.Find.{as_str, as_bool};
 ghost use Rattle.serde_json.specs.View.{view, items_view, members_view};
 ghost use Rattle.delta_actions.specs.Forms.{present, needed as needed_of, optional as optional_of, whole, version, texts, pairs, text_or_null};
-ghost use Rattle.delta_actions.specs.Answers.{Gives};
+ghost use Rattle.delta_actions.specs.StepsReading.{Gives};
 
 use crate::fault::Fault;
 use dm_types::{Items, Text, TextList};

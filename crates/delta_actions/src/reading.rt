@@ -1,7 +1,7 @@
 // The actions, from their JSON values.
 ghost use Rattle.std.specs.Prelude.{◌≡◌, Some};
 ghost use Rattle.serde_json.specs.View.{view};
-ghost use Rattle.delta_actions.specs.Answers.{Gives};
+ghost use Rattle.delta_actions.specs.StepsReading.{Gives};
 ghost use Rattle.delta_actions.specs.Meaning.{protocol_of, parquet as parquet_of, format_of, metadata_of, data_change_of, add_of, remove_of, cdc_of, domain_of, info_of, action_of as action_named};
 
 use crate::action::{

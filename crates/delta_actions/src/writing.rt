@@ -2,7 +2,7 @@
 ghost use Rattle.std.specs.Prelude.{◌≡◌, ◌++◌, IfOk, OnOk, IfSome, IsUtf8, Ok};
 ghost use Rattle.serde_json.specs.Written.{compact_text};
 ghost use Rattle.delta_actions.specs.Meaning.{commit_of};
-ghost use Rattle.delta_actions.specs.Wholes.{HasWholes};
+ghost use Rattle.delta_actions.specs.StepsWriting.{HasWholes};
 ghost use Rattle.delta_actions.specs.Writable.{AreWritable};
 ghost use Rattle.delta_actions.specs.Written.{line_data, line_text, commit_text};
 

@@ -9,7 +9,8 @@ use Rattle.std.proofs.Math.Seq.{take-suc}
 use Rattle.delta_actions.specs.declared.action.DomainAction.{DomainAction}
 use Rattle.delta_actions.specs.declared.action.Action.{Action}
 use Rattle.log_replay.specs.declared.commits.Commit.{Commit}
-use Rattle.log_replay.specs.Force.{all_actions, last_said, in_force, tracking_in, mark_from, mark_in_force, mark_after, mark_behind, fallen_within}
+use Rattle.log_replay.specs.Force.{all_actions, last_said, in_force, tracking_in, mark_from, mark_in_force, mark_after, fallen_within}
+use Rattle.log_replay.specs.StepsForce.{mark_behind}
 
 last-append : {A : Type 0} (o : Option A) (xs ys : List A) → last_or o (xs ++ ys) ≡ last_or (last_or o xs) ys
 last-append o [] ys = refl

@@ -62,7 +62,8 @@ no_mark = negsuc 0
 
 -- the mark of a domain; a removed one has none, and nor has one whose configuration isn't of the form
 abbrev pub domain_mark : DomainAction → ℤ
-domain_mark domain = if unwrap_or domain.removed false then no_mark else unwrap_or (mark_of domain.configuration) no_mark
+domain_mark domain =
+    if unwrap_or domain.removed false then no_mark else unwrap_or (mark_of domain.configuration) no_mark
 
 abbrev pub mark_from : Option DomainAction → ℤ
 mark_from None = no_mark
@@ -80,12 +81,8 @@ mark_after commits count = mark_in_force (take count commits)
 unfoldable pub fallen_within : List Commit → ℕ → Option ℤ
 fallen_within commits zero = None
 fallen_within commits (suc n) =
-    option_or (fallen_within commits n) (if int_lt (mark_after commits (suc n)) (mark_after commits n) then Some (mark_after commits (suc n)) else None)
+    let mark = mark_after commits (suc n) in
+    option_or (fallen_within commits n) (if int_lt mark (mark_after commits n) then Some mark else None)
 
 abbrev pub fallen : List Commit → Option ℤ
 fallen commits = fallen_within commits (length commits)
-
--- the mark behind a commit, whose last domain of row tracking this is, from the one before it
-abbrev pub mark_behind : ℤ → Option DomainAction → ℤ
-mark_behind before None = before
-mark_behind before (Some domain) = domain_mark domain

@@ -73,7 +73,8 @@ is_of path a = is_path path (mentioned a)
 abbrev pub takes_away : Line → List ℕ → Line → Bool
 takes_away this path other =
     is_of path other.action
-    && (nat_lt this.version other.version || (is_add other.action && this.version == other.version && nat_lt this.line other.line))
+    && (nat_lt this.version other.version
+    || (is_add other.action && this.version == other.version && nat_lt this.line other.line))
 
 -- the file that a line adds, if no line of the log takes it away
 abbrev pub live_of : List Line → Line → Option AddAction → Option AddAction

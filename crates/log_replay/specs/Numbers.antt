@@ -31,4 +31,5 @@ newest_of (n ∷ ns) = let newest = greatest (n ∷ ns) in unless_gap (first_mis
 
 -- the newest version, or the fault, is told by the members of a list alone
 abbrev pub MembersDecide : Type 0
-MembersDecide = (first second : List ℕ) → ((n : ℕ) → is_in n first ≡ is_in n second) → newest_of first ≡ newest_of second
+MembersDecide = (first second : List ℕ) → ((n : ℕ) → is_in n first ≡ is_in n second)
+    → newest_of first ≡ newest_of second

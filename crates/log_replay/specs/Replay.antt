@@ -17,7 +17,14 @@ unfoldable pub snapshot_of : List Commit → Option Snapshot
 snapshot_of commits = do
   metadata ← in_force metadata_in commits
   protocol ← in_force protocol_in commits
-  Some (record { version = newest commits; metadata = metadata; protocol = protocol; live = live_adds commits; mark = mark_in_force commits; fallen = fallen commits })
+  Some (record {
+    version = newest commits;
+    metadata = metadata;
+    protocol = protocol;
+    live = live_adds commits;
+    mark = mark_in_force commits;
+    fallen = fallen commits;
+  })
 
 -- what replaying answers
 abbrev pub Replays : Option Snapshot → Result Snapshot ReplayFault → Type 0

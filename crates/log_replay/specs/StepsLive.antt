@@ -15,18 +15,20 @@ abbrev pub is_decided : List (List ℕ) → List ℕ → Bool
 is_decided decided path = list_any (λ key. is_eq (slice_cmp nat_cmp path key)) decided
 
 -- one more path is decided, and of its file this is kept, unless the path was decided before
-pub record Decides {A : Type 0} (old now : List (List ℕ)) (kept grown : List A) (path : List ℕ) (file : Option A) : Type 0 where
+pub record Decides {A : Type 0} (old now : List (List ℕ)) (kept grown : List A) (path : List ℕ) (file : Option A)
+    : Type 0 where
   pub seen : (other : List ℕ) → is_decided now other ≡ (is_decided old other || bytes_eq other path)
   pub live : grown ≡ (if is_decided old path then kept else kept ++ option_to_list file)
 
 -- nothing is decided
-pub record Stays {A : Type 0} (old now : List (List ℕ)) (kept grown : List A) : Type 0 where
+pub record DecidesNothing {A : Type 0} (old now : List (List ℕ)) (kept grown : List A) : Type 0 where
   pub seen : now ≡ old
   pub live : grown ≡ kept
 
 -- an add decides its path
-abbrev pub DecidesAdd : {A : Type 0} → (AddAction → A) → List (List ℕ) → List (List ℕ) → List A → List A → Option AddAction → Type 0
-DecidesAdd keep old now kept grown None = Stays old now kept grown
+abbrev pub DecidesAdd : {A : Type 0} → (AddAction → A) → List (List ℕ) → List (List ℕ) → List A → List A
+    → Option AddAction → Type 0
+DecidesAdd keep old now kept grown None = DecidesNothing old now kept grown
 DecidesAdd keep old now kept grown (Some add) = Decides old now kept grown add.path (Some (keep add))
 
 -- the path that an action removes
@@ -42,7 +44,7 @@ removed action.Other = None
 
 -- a remove decides its path, and nothing is kept
 abbrev pub DecidesRemove : {A : Type 0} → List (List ℕ) → List (List ℕ) → List A → List A → Option (List ℕ) → Type 0
-DecidesRemove {A} old now kept grown None = Stays old now kept grown
+DecidesRemove {A} old now kept grown None = DecidesNothing old now kept grown
 DecidesRemove {A} old now kept grown (Some path) = Decides {A = A} old now kept grown path None
 
 -- the files whose paths nothing has decided

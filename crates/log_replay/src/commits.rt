@@ -7,7 +7,7 @@ use dm_types::Items;
 use std::alloc::AllocError;
 
 /// A version of a table, and the actions of its commit file in the order of its lines.
-#[derive(Debug, Drop)]
+#[derive(Drop)]
 pub struct Commit {
     /// The version's number.
     pub version: u64,

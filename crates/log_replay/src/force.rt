@@ -3,6 +3,7 @@ ghost use Rattle.std.specs.Prelude.{◌≡◌, List, Option, Some, None, IfOk, o
 ghost use Rattle.std.specs.Option.{option_or};
 ghost use Rattle.delta_actions.specs.declared.action.Action.{Action as AnAction};
 ghost use Rattle.log_replay.specs.Force as spec;
+ghost use Rattle.log_replay.specs.StepsForce.{mark_behind as mark_behind_of};
 
 use crate::commits::Commit;
 use delta_actions::{Action, DomainAction, MetadataAction, ProtocolAction, row_id_mark};
@@ -86,7 +87,7 @@ fn last_said<T: Said>(actions: &[Action]) -> Option<&T>
 }
 
 /// The row id mark of a log, and whether it fell on the way.
-#[derive(Clone, Copy, Debug)]
+#[derive(Drop)]
 pub(crate) struct Marks {
     /// The mark in force.
     pub(crate) mark: i64,
@@ -122,7 +123,8 @@ fn first_fall(fallen: Option<i64>, before: i64, mark: i64) -> Option<i64>
 
 // The mark behind a commit, from the one before it.
 fn mark_behind(alloc: Global, before: i64, commit: &Commit) -> Result<i64, AllocError>
-    ensures { IfOk result (λ mark. mark ≡ spec.mark_behind before (spec.last_said spec.tracking_in commit.now.actions)) }
+    ensures { IfOk result
+        (λ mark. mark ≡ mark_behind_of before (spec.last_said spec.tracking_in commit.now.actions)) }
 {
     match last_said::<DomainAction>(commit.actions.as_slice()) {
         Some(domain) => domain_mark(alloc, domain),

@@ -19,10 +19,10 @@ pub fn members_decide()
 /// that it adds, each path where it is added last (PROTOCOL.md, "Action Reconciliation"). The commits
 /// stay numbered.
 pub fn live_after_commit()
-    ensures numbers { (commits : List ACommit) → (commit : ACommit) → AreNumbered 0 commits → commit.version ≡ length commits
-        → AreNumbered 0 (commits ++ commit ∷ []) }
-    ensures live { (commits : List ACommit) → (commit : ACommit) → AreNumbered 0 commits → commit.version ≡ length commits
-        → live_adds (commits ++ commit ∷ [])
+    ensures numbers { (commits : List ACommit) → (commit : ACommit) → AreNumbered 0 commits
+        → commit.version ≡ length commits → AreNumbered 0 (commits ++ commit ∷ []) }
+    ensures live { (commits : List ACommit) → (commit : ACommit) → AreNumbered 0 commits
+        → commit.version ≡ length commits → live_adds (commits ++ commit ∷ [])
         ≡ filter (λ add. not (mentions commit.actions add.path)) (live_adds commits) ++ last_adds commit.actions }
 {}
 

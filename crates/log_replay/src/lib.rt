@@ -4,13 +4,12 @@
 
 mod commits;
 mod force;
-mod laws;
+pub mod laws;
 mod live;
 mod numbers;
 mod snapshot;
 
 pub use commits::{Commit, Commits, push_commit};
-pub use laws::{forms_of_live, live_after_commit, members_decide, removal_of_all};
 pub use live::live_paths;
 pub use numbers::{NumberFault, check_numbers};
 pub use snapshot::{LiveFiles, ReplayFault, Snapshot, replay};

@@ -14,7 +14,7 @@ use thiserror::Error;
 pub type LiveFiles = Items<AddAction>;
 
 /// A table at its newest version.
-#[derive(Debug, Drop)]
+#[derive(Drop)]
 pub struct Snapshot {
     /// The newest version.
     pub version: u64,
@@ -31,7 +31,7 @@ pub struct Snapshot {
 }
 
 /// Why a log says no state of a table.
-#[derive(Clone, Copy, Debug, PartialEq, Eq, Error)]
+#[derive(Debug, Drop, Error)]
 pub enum ReplayFault {
     /// No metadata or no protocol is in force.
     #[error("the log has no metadata or no protocol")]

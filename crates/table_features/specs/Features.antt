@@ -37,12 +37,15 @@ is_before a b = is_lt (slice_cmp nat_cmp a b)
 abbrev pub AreKnown : (List ℕ → Bool) → List (List ℕ) → ℕ → Type 0
 AreKnown knows names count = (place : ℕ) → place < count → knows (name_at names place) ≡ true
 
--- of the names at the first places the one here is unknown, and the least unknown one by bytes; of equal ones it is the first
+-- of the names at the first places the one here is unknown, and the least unknown one by bytes; of equal ones it is
+-- the first
 pub record IsLeastUnknown (knows : List ℕ → Bool) (names : List (List ℕ)) (count here : ℕ) : Type 0 where
   pub within : here < count
   pub unknown : knows (name_at names here) ≡ false
-  pub before : (place : ℕ) → place < here → knows (name_at names place) ≡ false → is_before (name_at names here) (name_at names place) ≡ true
-  pub least : (place : ℕ) → place < count → knows (name_at names place) ≡ false → is_before (name_at names place) (name_at names here) ≡ false
+  pub before : (place : ℕ) → place < here → knows (name_at names place) ≡ false
+      → is_before (name_at names here) (name_at names place) ≡ true
+  pub least : (place : ℕ) → place < count → knows (name_at names place) ≡ false
+      → is_before (name_at names place) (name_at names here) ≡ false
 
 -- the least unknown one of the first names, if there is one
 abbrev pub IsLeastOf : (List ℕ → Bool) → List (List ℕ) → ℕ → Option ℕ → Type 0
@@ -56,21 +59,25 @@ FindsLeast knows names found = IsLeastOf knows names (length names) found
 abbrev pub CanRead : ProtocolAction → Result (Unit {0}) FeatureFault → Type 0
 CanRead protocol (Ok _) =
     (1 ≤ protocol.min_reader_version) × (protocol.min_reader_version ≤ 3)
-    × (protocol.min_reader_version ≡ 3 → AreKnown is_reader_feature protocol.reader_features (length protocol.reader_features))
+    × (protocol.min_reader_version ≡ 3
+    → AreKnown is_reader_feature protocol.reader_features (length protocol.reader_features))
 CanRead protocol (Err fault.Numbers) = ¬ ((1 ≤ protocol.min_reader_version) × (protocol.min_reader_version ≤ 3))
 CanRead protocol (Err (fault.Reader index)) =
-    (protocol.min_reader_version ≡ 3) × IsLeastUnknown is_reader_feature protocol.reader_features (length protocol.reader_features) index
+    (protocol.min_reader_version ≡ 3)
+    × IsLeastUnknown is_reader_feature protocol.reader_features (length protocol.reader_features) index
 CanRead protocol (Err (fault.Writer index)) = ⊥
 
 -- the writer version is 1 to 7, and at 7 every writer feature is known
 abbrev pub CanWrite : ProtocolAction → Result (Unit {0}) FeatureFault → Type 0
 CanWrite protocol (Ok _) =
     (1 ≤ protocol.min_writer_version) × (protocol.min_writer_version ≤ 7)
-    × (protocol.min_writer_version ≡ 7 → AreKnown is_writer_feature protocol.writer_features (length protocol.writer_features))
+    × (protocol.min_writer_version ≡ 7
+    → AreKnown is_writer_feature protocol.writer_features (length protocol.writer_features))
 CanWrite protocol (Err fault.Numbers) = ¬ ((1 ≤ protocol.min_writer_version) × (protocol.min_writer_version ≤ 7))
 CanWrite protocol (Err (fault.Reader index)) = ⊥
 CanWrite protocol (Err (fault.Writer index)) =
-    (protocol.min_writer_version ≡ 7) × IsLeastUnknown is_writer_feature protocol.writer_features (length protocol.writer_features) index
+    (protocol.min_writer_version ≡ 7)
+    × IsLeastUnknown is_writer_feature protocol.writer_features (length protocol.writer_features) index
 
 -- why a protocol is refused: its version, or a feature by its name
 pub data NamedFault : Type 0 where
@@ -85,7 +92,8 @@ lesser name (Some other) = if is_before other name then other else name
 -- the least by bytes of the names that aren't known, if there is one
 unfoldable pub least_unknown : (List ℕ → Bool) → List (List ℕ) → Option (List ℕ)
 least_unknown knows [] = None
-least_unknown knows (name ∷ names) = if knows name then least_unknown knows names else Some (lesser name (least_unknown knows names))
+least_unknown knows (name ∷ names) =
+    if knows name then least_unknown knows names else Some (lesser name (least_unknown knows names))
 
 -- the versions go up to one at which each feature must be known; there the least unknown one is the fault
 unfoldable pub fault_of : (List ℕ → Bool) → ℕ → ℕ → List (List ℕ) → Option NamedFault
@@ -111,4 +119,5 @@ named_fault protocol (Err (fault.Writer index)) = Some (feature (name_at protoco
 -- the name at a place is unknown, and comes before the least so far
 abbrev pub is_below_least : (List ℕ → Bool) → List (List ℕ) → Option ℕ → ℕ → Bool
 is_below_least knows names None place = not (knows (name_at names place))
-is_below_least knows names (Some here) place = not (knows (name_at names place)) && is_before (name_at names place) (name_at names here)
+is_below_least knows names (Some here) place =
+    not (knows (name_at names place)) && is_before (name_at names place) (name_at names here)

@@ -11,8 +11,8 @@ use Rattle.log_replay.specs.declared.snapshot.Snapshot.{Snapshot}
 use Rattle.table_features.specs.Features.{NamedFault, named_fault, write_fault}
 use Rattle.table_features.specs.declared.checks.FeatureFault.{FeatureFault}
 use Rattle.table_load.specs.Head.{unless_fault}
-use Rattle.table_load.specs.Opened.{without_vectors, has_room, keeps_rules, writable}
-use Rattle.table_load.specs.Tells.{Gives}
+use Rattle.table_load.specs.OpenedForWriting.{without_vectors, has_room, keeps_rules, writable}
+use Rattle.table_load.specs.StepsLoading.{Gives}
 
 -- ---- deletion vectors
 

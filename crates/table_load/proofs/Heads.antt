@@ -11,8 +11,9 @@ use Rattle.log_replay.specs.declared.snapshot.Snapshot.{Snapshot}
 use Rattle.table_log.specs.Log.{log_of}
 use Rattle.table_log.specs.Versions.{commits_at}
 use Rattle.table_load.specs.Head.{head_of, head_at}
-use Rattle.table_load.specs.Opened.{writable, opened_to_write}
-use Rattle.table_load.specs.Tells.{Tells, Gives}
+use Rattle.table_load.specs.OpenedForWriting.{writable, opened_to_write}
+use Rattle.table_load.specs.StepsLoading.{Gives}
+use Rattle.table_load.specs.Tells.{Tells}
 
 -- a refusal decides what follows it
 

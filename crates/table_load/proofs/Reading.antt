@@ -16,8 +16,8 @@ use Rattle.dm_types.specs.Then.{go}
 use Rattle.table_log.specs.Listed.{AreVersions}
 use Rattle.table_log.specs.Log.{Log, log_of, bytes_of}
 use Rattle.table_log.specs.Versions.{newest_version, good_lines, commit_at, commits_below, commits_at, chosen, of_numbers}
-use Rattle.table_load.specs.Newest.{version_among}
-use Rattle.table_load.specs.Tells.{Tells, Gives}
+use Rattle.table_load.specs.StepsLoading.{Gives, version_among}
+use Rattle.table_load.specs.Tells.{Tells}
 
 -- one commit
 

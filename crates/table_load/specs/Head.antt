@@ -1,5 +1,5 @@
 -- The state of a table that its log says, if the table may be read (PROTOCOL.md, "Reader Requirements").
-use Rattle.std.specs.Prelude.{ℕ, ◌<◌, List, length, Option, Some, None, Result, Ok, Err, ⊤}
+use Rattle.std.specs.Prelude.{ℕ, List, Option, Some, None, Result, Ok, Err}
 use Rattle.dm_types.specs.declared.refusal.TableRefusal.{TableRefusal}
 use Rattle.dm_types.specs.declared.refusal.TableRefusal.TheVariants as refusal
 use Rattle.dm_types.specs.Then.{go}
@@ -7,9 +7,7 @@ use Rattle.delta_actions.specs.declared.action.ProtocolAction.{ProtocolAction}
 use Rattle.log_replay.specs.Replay.{snapshot_of}
 use Rattle.log_replay.specs.declared.commits.Commit.{Commit}
 use Rattle.log_replay.specs.declared.snapshot.Snapshot.{Snapshot}
-use Rattle.table_features.specs.Features.{NamedFault, numbers, feature, name_at, read_fault}
-use Rattle.table_features.specs.declared.checks.FeatureFault.{FeatureFault}
-use Rattle.table_features.specs.declared.checks.FeatureFault.TheVariants as fault
+use Rattle.table_features.specs.Features.{NamedFault, numbers, feature, read_fault}
 use Rattle.table_log.specs.Log.{Log}
 use Rattle.table_log.specs.Versions.{commits_at}
 
@@ -21,19 +19,9 @@ state_of (Some table) = Ok table
 -- the refusal of a protocol
 abbrev pub unless_fault : ProtocolAction → Option NamedFault → Result (Unit {0}) TableRefusal
 unless_fault protocol None = Ok tt
-unless_fault protocol (Some numbers) = Err (refusal.ProtocolUnsupported protocol.min_reader_version protocol.min_writer_version)
+unless_fault protocol (Some numbers) =
+    Err (refusal.ProtocolUnsupported protocol.min_reader_version protocol.min_writer_version)
 unless_fault protocol (Some (feature name)) = Err (refusal.UnknownFeature name)
-
--- the feature at this place
-abbrev pub unknown_at : List (List ℕ) → ℕ → Result (Unit {0}) TableRefusal
-unknown_at features index = Err (refusal.UnknownFeature (name_at features index))
-
--- a feature that an answer names is in its list
-abbrev pub IsPlaced : ProtocolAction → Result (Unit {0}) FeatureFault → Type 0
-IsPlaced protocol (Ok _) = ⊤
-IsPlaced protocol (Err fault.Numbers) = ⊤
-IsPlaced protocol (Err (fault.Reader index)) = index < length protocol.reader_features
-IsPlaced protocol (Err (fault.Writer index)) = index < length protocol.writer_features
 
 -- the protocol may be read
 abbrev pub readable : Snapshot → Result Snapshot TableRefusal

@@ -1,5 +1,5 @@
 pub mod Tells
-pub mod Newest
+pub mod StepsLoading
 pub mod Properties
 pub mod Head
-pub mod Opened
+pub mod OpenedForWriting

@@ -14,4 +14,6 @@ is_on table name = is_true_in (unwrap_or table.metadata.configuration []) name
 
 -- rows are tracked: the property is `true`, and the writer features list it (PROTOCOL.md, "Row Tracking")
 abbrev pub tracks_rows : Snapshot → Bool
-tracks_rows table = is_on table (codes "delta.enableRowTracking") && list_any (λ name. bytes_eq name (codes "rowTracking")) table.protocol.writer_features
+tracks_rows table =
+    is_on table (codes "delta.enableRowTracking")
+    && list_any (λ name. bytes_eq name (codes "rowTracking")) table.protocol.writer_features

@@ -15,13 +15,3 @@ Tells told meaning (Err (stop.Refused (refused.Put refusal))) = ⊥
 Tells told meaning (Err stop.Store) = ⊤
 Tells told meaning (Err stop.Names) = ⊥
 Tells told meaning (Err stop.Memory) = ⊤
-
--- the same of a call that needs no store
-abbrev pub Gives : {A : Type 0} → Result A TableRefusal → Result A Stop → Type 0
-Gives known (Ok value) = known ≡ Ok value
-Gives known (Err (stop.Refused (refused.Table refusal))) = known ≡ Err refusal
-Gives known (Err (stop.Refused (refused.Statement refusal))) = ⊥
-Gives known (Err (stop.Refused (refused.Put refusal))) = ⊥
-Gives known (Err stop.Store) = ⊥
-Gives known (Err stop.Names) = ⊥
-Gives known (Err stop.Memory) = ⊤

@@ -4,7 +4,8 @@ ghost use Rattle.dm_store.specs.Causes.{Counts, StopCause};
 ghost use Rattle.log_replay.specs.Live.{AreNumbered};
 ghost use Rattle.table_features.specs.Features.{named_fault};
 ghost use Rattle.table_load.specs.Head as spec;
-ghost use Rattle.table_load.specs.Tells.{Tells, Gives};
+ghost use Rattle.table_load.specs.StepsLoading.{Gives, IsPlaced, unknown_at};
+ghost use Rattle.table_load.specs.Tells.{Tells};
 ghost use Rattle.table_log.specs.Log.{log_of};
 
 use crate::log::load_log;
@@ -60,7 +61,7 @@ pub(crate) fn permit(
     protocol: &ProtocolAction,
     answer: Result<(), FeatureFault>,
 ) -> Result<(), Stop>
-    requires { spec.IsPlaced protocol.now answer }
+    requires { IsPlaced protocol.now answer }
     ensures { Gives (spec.unless_fault protocol.now (named_fault protocol.now answer)) result }
 {
     match answer {
@@ -78,7 +79,7 @@ pub(crate) fn permit(
 // The feature at this place isn't known.
 fn unknown(alloc: Global, features: &TextList, index: usize) -> Result<(), Stop>
     requires { index < length features.now }
-    ensures { Gives (spec.unknown_at features.now index) result }
+    ensures { Gives (unknown_at features.now index) result }
 {
     let name = Text::from_str(alloc, features.get(index).as_str())?;
     Err(TableRefusal::UnknownFeature { name }.into())

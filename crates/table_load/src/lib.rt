@@ -4,10 +4,10 @@
 
 mod head;
 mod log;
-mod opened;
+mod opened_for_writing;
 mod properties;
 
 pub use head::load_head;
 pub use log::load_log;
-pub use opened::load_to_write;
+pub use opened_for_writing::load_to_write;
 pub use properties::{is_on, tracks_rows};

@@ -9,13 +9,13 @@ ghost use Rattle.table_log.specs.Listed.{IsVersion};
 ghost use Rattle.table_log.specs.Log.{log_of};
 ghost use Rattle.table_log.specs.Versions.{of_numbers, commits_at, commits_below, commit_at};
 ghost use Rattle.log_replay.specs.Numbers.{newest_of};
-ghost use Rattle.table_load.specs.Newest as spec;
-ghost use Rattle.table_load.specs.Tells.{Tells, Gives};
+ghost use Rattle.table_load.specs.StepsLoading.{Gives, version_among as among};
+ghost use Rattle.table_load.specs.Tells.{Tells};
 
 use delta_actions::{ActionFault, Actions, read_commit};
 use dm_store::{ReadFault, Store};
 use dm_types::{CountList, Stop, TableRefusal, Text};
-use log_replay::{Commits, NumberFault, check_numbers, members_decide, push_commit};
+use log_replay::{Commits, NumberFault, check_numbers, laws, push_commit};
 use std::alloc::{AllocError, Global};
 use std::collections::BTreeSet;
 use table_log::{list_versions, read_version};
@@ -39,7 +39,7 @@ pub fn load_log<S: Store>(
     ensures taken { S.taken store.new ≡ S.taken store.old }
 {
     let versions = list_versions(alloc, store, table)?;
-    members_decide();
+    laws::members_decide();
     let last = version_among(alloc, &versions, version)?;
     read_commits(alloc, store, table, last)
 }
@@ -47,7 +47,7 @@ pub fn load_log<S: Store>(
 // The version that is asked for, or else the newest.
 fn version_among(alloc: Global, versions: &BTreeSet<u64>, asked: Option<u64>) -> Result<u64, Stop>
     requires { All IsVersion versions.now.keys }
-    ensures version { Gives (spec.version_among asked versions.now.keys) result }
+    ensures version { Gives (among asked versions.now.keys) result }
     ensures small { IfOk result IsVersion }
 {
     let newest = newest_version(alloc, versions)?;

@@ -40,15 +40,19 @@ FrameUnseen = (files more : Files) → AreUnseen more → Agree files (files ++ 
 
 -- unseen files, and behind them the commit file of the version behind the newest of a table, change that version alone
 abbrev pub FrameNext : Type 0
-FrameNext = (files more : Files) (table : List ℕ) (newest : ℕ) (bytes : List ℕ) → AreUnseen more → newest + 1 < 2 ^ 63 → newest_version (log_of table files) ≡ Ok newest
+FrameNext = (files more : Files) (table : List ℕ) (newest : ℕ) (bytes : List ℕ) → AreUnseen more
+    → newest + 1 < 2 ^ 63 → newest_version (log_of table files) ≡ Ok newest
     → AgreeBut table (newest + 1) files (files ++ (more ++ (commit_path table (newest + 1), bytes) ∷ []))
 
 -- what that version then says: the commits before it, and the actions of the file
 abbrev pub SaysNext : Type 0
-SaysNext = (files more : Files) (table : List ℕ) (newest : ℕ) (bytes : List ℕ) → AreUnseen more → newest + 1 < 2 ^ 63 → newest_version (log_of table files) ≡ Ok newest
+SaysNext = (files more : Files) (table : List ℕ) (newest : ℕ) (bytes : List ℕ) → AreUnseen more
+    → newest + 1 < 2 ^ 63 → newest_version (log_of table files) ≡ Ok newest
     → said_at table (newest + 1) (files ++ (more ++ (commit_path table (newest + 1), bytes) ∷ []))
-    ≡ go (said_at table newest files) (λ commits. go (good_lines (newest + 1) (commit_of bytes)) (λ actions. Ok (commits ++ numbered (newest + 1) actions ∷ [])))
+    ≡ go (said_at table newest files) (λ commits.
+    go (good_lines (newest + 1) (commit_of bytes)) (λ actions. Ok (commits ++ numbered (newest + 1) actions ∷ [])))
 
 -- the version behind the newest has no file yet
 abbrev pub NextIsAbsent : Type 0
-NextIsAbsent = (files : Files) (table : List ℕ) (newest : ℕ) → newest + 1 < 2 ^ 63 → newest_version (log_of table files) ≡ Ok newest → lookup (commit_path table (newest + 1)) files ≡ None
+NextIsAbsent = (files : Files) (table : List ℕ) (newest : ℕ) → newest + 1 < 2 ^ 63
+    → newest_version (log_of table files) ≡ Ok newest → lookup (commit_path table (newest + 1)) files ≡ None

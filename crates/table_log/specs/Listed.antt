@@ -15,7 +15,8 @@ IsVersion n = n < 2 ^ 63
 
 -- the numbers are the versions of the log, where the files are told
 abbrev pub AreVersions : List ℕ → Option Files → List ℕ → Type 0
-AreVersions table told numbers = WhereTold told (λ files. (n : ℕ) → is_in n numbers ≡ is_in n (entries.keys_of (log_of table files)))
+AreVersions table told numbers =
+    WhereTold told (λ files. (n : ℕ) → is_in n numbers ≡ is_in n (entries.keys_of (log_of table files)))
 
 -- a listing gives the versions that have a commit file
 abbrev pub ListsVersions : List ℕ → Option Files → Result (BTreeSet ℕ) ListFault → Type 0
@@ -24,7 +25,9 @@ ListsVersions table told (Err e) = ⊤
 
 -- a read gives the bytes of a version's commit file
 abbrev pub ReadsVersion : List ℕ → ℕ → Option Files → Result (List ℕ) ReadFault → Type 0
-ReadsVersion table version told (Ok bytes) = WhereTold told (λ files. bytes_of version (log_of table files) ≡ Some bytes)
-ReadsVersion table version told (Err read.Absent) = WhereTold told (λ files. bytes_of version (log_of table files) ≡ None)
+ReadsVersion table version told (Ok bytes) =
+    WhereTold told (λ files. bytes_of version (log_of table files) ≡ Some bytes)
+ReadsVersion table version told (Err read.Absent) =
+    WhereTold told (λ files. bytes_of version (log_of table files) ≡ None)
 ReadsVersion table version told (Err read.Failed) = ⊤
 ReadsVersion table version told (Err read.Memory) = ⊤

@@ -40,7 +40,8 @@ commit_at log version = actions_in version (bytes_of version log)
 -- the commit of each version below the bound
 unfoldable pub commits_below : Log → ℕ → Result (List Commit) TableRefusal
 commits_below log zero = Ok []
-commits_below log (suc n) = go (commits_below log n) (λ commits. go (commit_at log n) (λ actions. Ok (commits ++ numbered n actions ∷ [])))
+commits_below log (suc n) =
+    go (commits_below log n) (λ commits. go (commit_at log n) (λ actions. Ok (commits ++ numbered n actions ∷ [])))
 
 -- the version that is asked for, if there is one up to the newest; without a question it is the newest
 abbrev pub chosen : Option ℕ → ℕ → Result ℕ TableRefusal
@@ -49,4 +50,5 @@ chosen (Some version) newest = if nat_lt newest version then Err (refusal.NoSuch
 
 -- the commits up to the version that is asked for, or the first refusal
 unfoldable pub commits_at : Option ℕ → Log → Result (List Commit) TableRefusal
-commits_at asked log = go (newest_version log) (λ newest. go (chosen asked newest) (λ version. commits_below log (version + 1)))
+commits_at asked log =
+    go (newest_version log) (λ newest. go (chosen asked newest) (λ version. commits_below log (version + 1)))

@@ -35,7 +35,8 @@ pub fn list_versions<S: Store>(
 
 // Adds the version that a name spells; other names are passed by.
 fn add_version(versions: &mut BTreeSet<u64>, name: &str) -> Result<(), AllocError>
-    ensures added { OnOk result ((n : ℕ) → is_in n versions.new.keys ≡ is_in n (cons_option (spec.version_of name.now) versions.old.keys)) }
+    ensures added { OnOk result ((n : ℕ) → is_in n versions.new.keys
+        ≡ is_in n (cons_option (spec.version_of name.now) versions.old.keys)) }
     ensures small { OnOk result (All IsVersion versions.old.keys → All IsVersion versions.new.keys) }
 {
     if let Some(version) = version_of(name) {

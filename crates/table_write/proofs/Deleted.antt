@@ -37,7 +37,7 @@ use Rattle.table_log.specs.Agree.{AreUnseen, said_at, FrameNext, SaysNext, NextI
 use Rattle.table_log.specs.Log.{Log, log_of, commit_path, bytes_of}
 use Rattle.table_log.specs.Versions.{newest_version, commits_at, commits_below, commit_at, actions_in, good_lines}
 use Rattle.table_load.specs.Head.{head_at, head_of, state_of, readable, unless_fault}
-use Rattle.table_load.specs.Opened.{opened_to_write, writable, without_vectors, has_room}
+use Rattle.table_load.specs.OpenedForWriting.{opened_to_write, writable, without_vectors, has_room}
 use Rattle.commit_log.specs.Block.{files_of, block_of, commit_file}
 use Rattle.commit_log.specs.Commits.{AllPut, SomePut, ReadsBack}
 use Rattle.commit_log.specs.declared.new_files.NewFiles.{NewFiles}

@@ -15,7 +15,7 @@ use Rattle.commit_log.specs.Commits.{AllPut, Commits, IsBuilt, CommitTaken, stop
 use Rattle.commit_log.specs.declared.fault.CommitFault.{CommitFault}
 use Rattle.commit_log.specs.declared.fault.CommitFault.TheVariants as fault
 use Rattle.commit_log.specs.declared.new_files.NewFiles.{NewFiles}
-use Rattle.table_load.specs.Opened.{opened_to_write}
+use Rattle.table_load.specs.OpenedForWriting.{opened_to_write}
 use Rattle.table_load.specs.Tells.{Tells}
 use Rattle.table_log.specs.Log.{log_of}
 use Rattle.table_write.specs.Delete.{changeable, deletable, deletion, delete_from}

@@ -10,7 +10,7 @@ use Rattle.delta_actions.specs.declared.action.Action.{Action}
 use Rattle.delta_actions.specs.declared.action.Action.TheVariants as action
 use Rattle.log_replay.specs.declared.snapshot.Snapshot.{Snapshot}
 use Rattle.table_log.specs.Log.{log_of}
-use Rattle.table_load.specs.Opened.{opened_to_write}
+use Rattle.table_load.specs.OpenedForWriting.{opened_to_write}
 use Rattle.table_load.specs.Properties.{is_on, tracks_rows}
 use Rattle.commit_log.specs.declared.new_files.NewFiles.{NewFiles}
 use Rattle.table_write.specs.Writing.{of_table, of_statement, Write}
@@ -25,12 +25,14 @@ changeable table =
 -- the table's newest state, if its rows may be deleted, or the first refusal
 unfoldable pub deletable : List ℕ → Files → Result Snapshot Refused
 deletable table files =
-    go (of_table (opened_to_write (log_of table files))) (λ found. go (of_statement (changeable found)) (λ _. Ok found))
+    go (of_table (opened_to_write (log_of table files))) (λ found.
+    go (of_statement (changeable found)) (λ _. Ok found))
 
 -- where the commit comes from, and then a remove for each live file in log order
 abbrev pub delete_actions : Snapshot → ℤ → List Action
 delete_actions table time =
-    action.Info (record { operation = codes "DELETE"; timestamp = time }) ∷ map (λ add. action.Remove (removal_of time add)) table.live
+    action.Info (record { operation = codes "DELETE"; timestamp = time })
+    ∷ map (λ add. action.Remove (removal_of time add)) table.live
 
 -- the new version: its commit file alone
 abbrev pub deletion : List ℕ → Snapshot → ℤ → NewFiles

@@ -15,8 +15,8 @@ use Rattle.table_write.specs.Delete.{delete_from}
 use Rattle.table_write.specs.Outside.{Outside}
 use Rattle.table_write.specs.Writing.{Accepts, CarriesOut, version_line}
 
--- the files have one more version of the table, in which no file is live; its commits are those of the version before it
--- and one more; every other version of this table and of the others says what it said
+-- the files have one more version of the table, in which no file is live; its commits are those of the version before
+-- it and one more; every other version of this table and of the others says what it said
 pub record DeletesAll (table : List ℕ) (files now : Files) (text : List ℕ) : Type 0 where
   pub newest : ℕ
   pub commits : List Commit
@@ -31,7 +31,8 @@ pub record DeletesAll (table : List ℕ) (files now : Files) (text : List ℕ) :
 -- an accepted DELETE empties the table, in one new version
 abbrev pub DeleteEmpties : Type 0
 DeleteEmpties = (table text : List ℕ) (old new : Outside) (files : Files) → old.files ≡ Some files
-    → Accepts (delete_from table) old text new → (now : Files) × (new.files ≡ Some now) × DeletesAll table files now text
+    → Accepts (delete_from table) old text new
+    → (now : Files) × (new.files ≡ Some now) × DeletesAll table files now text
 
 -- the files hold the new version whole
 abbrev pub IsWhole : List ℕ → Files → Outside → Type 0

@@ -13,8 +13,8 @@ use Rattle.commit_log.specs.Commits.{AllPut, SomePut, IsFirstTaken, IsOvertaken,
 use Rattle.commit_log.specs.declared.new_files.NewFiles.{NewFiles}
 use Rattle.table_write.specs.Writing.{version_line}
 
--- the checks of a write statement answer as this function of the files says, where they are told: with the plan, or with
--- a refusal of the table or of the statement
+-- the checks of a write statement answer as this function of the files says, where they are told: with the plan, or
+-- with a refusal of the table or of the statement
 abbrev pub TellsPlan : {A : Type 0} → Option Files → (Files → Result A Refused) → Result A Stop → Type 0
 TellsPlan told checks (Ok plan) = WhereTold told (λ files. checks files ≡ Ok plan)
 TellsPlan told checks (Err (stop.Refused (refused.Table refusal))) =
@@ -45,6 +45,7 @@ PutsVersion fresh old new before now (Err (stop.Refused (refused.Put (clash.Name
     × Rose before now
 PutsVersion fresh old new before now (Err (stop.Refused (refused.Put (clash.VersionTaken version)))) =
     IsOvertaken fresh old new × (version ≡ fresh.version) × Rose before now
-PutsVersion fresh old new before now (Err stop.Store) = SomePut (block_of fresh) old new × (now ≡ before) × ReadsBack fresh
+PutsVersion fresh old new before now (Err stop.Store) =
+    SomePut (block_of fresh) old new × (now ≡ before) × ReadsBack fresh
 PutsVersion fresh old new before now (Err stop.Names) = ⊥
 PutsVersion fresh old new before now (Err stop.Memory) = SomePut (files_of fresh) old new × (now ≡ before)

@@ -105,8 +105,8 @@ abbrev pub FindsTaken : Write → Outside → PutRefusal → Outside → Type 0
 FindsTaken w old (clash.NameTaken path) new = NameIsTaken w old path new
 FindsTaken w old (clash.VersionTaken version) new = VersionIsTaken w old version new
 
--- what stands after each answer; a call of the store may fail before the draw and at a put, and memory may be wanting at
--- both
+-- what stands after each answer; a call of the store may fail before the draw and at a put, and memory may be wanting
+-- at both
 abbrev pub CarriesOut : Write → Outside → Result (List ℕ) Stop → Outside → Type 0
 CarriesOut w old (Ok text) new = Accepts w old text new
 CarriesOut w old (Err (stop.Refused (refused.Table refusal))) new = Refuses w old (refused.Table refusal) new

@@ -2,7 +2,7 @@
 ghost use Rattle.table_write.specs.Emptied.{DeleteEmpties, DeleteStands};
 
 use delta_actions::good_forms;
-use log_replay::{forms_of_live, live_after_commit, removal_of_all};
+use log_replay::laws::{forms_of_live, live_after_commit, removal_of_all};
 use table_log::{next_is_absent, next_version_stands_alone, says_next};
 
 /// A law: an accepted DELETE leaves one more version of its table, in which no file is live, and

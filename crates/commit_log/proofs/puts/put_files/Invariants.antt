@@ -1,5 +1,5 @@
 use Rattle.std.proofs.Common.{◌≡◌, take}
-use Rattle.commit_log.specs.Block.{with_paths}
+use Rattle.commit_log.specs.StepsPutting.{with_paths}
 use Rattle.commit_log.specs.Commits.{AllPut}
 use Rattle.commit_log.proofs.puts.put_files.Given as goal
 

@@ -2,7 +2,7 @@ use Rattle.std.proofs.Common.{◌≡◌, take, ap, ◌∙◌, subst}
 use Rattle.std.specs.List.{AllByRecursion}
 use Rattle.std.proofs.lemmas.List.{take_all}
 use Rattle.delta_actions.specs.Meaning.{commit_of}
-use Rattle.delta_actions.specs.Wholes.{HasWholes}
+use Rattle.delta_actions.specs.StepsWriting.{HasWholes}
 use Rattle.delta_actions.specs.Written.{commit_text}
 use Rattle.delta_actions.proofs.Lines.{IsSpelled, text_of, commit_back}
 use Rattle.delta_actions.proofs.writing.write_commit.Goals as goal

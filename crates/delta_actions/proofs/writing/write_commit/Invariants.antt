@@ -1,6 +1,6 @@
 use Rattle.std.proofs.Common.{◌≡◌, take}
 use Rattle.std.specs.List.{AllByRecursion}
-use Rattle.delta_actions.specs.Wholes.{HasWholes}
+use Rattle.delta_actions.specs.StepsWriting.{HasWholes}
 use Rattle.delta_actions.proofs.Lines.{IsSpelled, text_of}
 use Rattle.delta_actions.proofs.writing.write_commit.Given as goal
 

@@ -14,7 +14,8 @@ use Rattle.table_load.specs.Properties.{is_on}
 -- no file has a deletion vector; the refusal names the first that has one
 unfoldable pub without_vectors : List AddAction → Result (Unit {0}) TableRefusal
 without_vectors [] = Ok tt
-without_vectors (add ∷ more) = if add.deletion_vector then Err (refusal.DeletionVector add.path) else without_vectors more
+without_vectors (add ∷ more) =
+    if add.deletion_vector then Err (refusal.DeletionVector add.path) else without_vectors more
 
 -- there is a version behind the newest
 abbrev pub has_room : ℕ → Result (Unit {0}) TableRefusal
@@ -22,12 +23,16 @@ has_room newest = if nat_lt (newest + 1) (2 ^ 63) then Ok tt else Err (refusal.T
 
 -- no change files are to be written
 abbrev pub keeps_rules : Snapshot → Result (Unit {0}) TableRefusal
-keeps_rules table = if is_on table (codes "delta.enableChangeDataFeed") then Err (refusal.UnsupportedRule (codes "delta.enableChangeDataFeed")) else Ok tt
+keeps_rules table =
+    if is_on table (codes "delta.enableChangeDataFeed") then Err (refusal.UnsupportedRule (codes "delta.enableChangeDataFeed"))
+    else Ok tt
 
 -- the table may be written, or the first refusal
 unfoldable pub writable : Snapshot → Result (Unit {0}) TableRefusal
 writable table =
-    go (without_vectors table.live) (λ _. go (unless_fault table.protocol (write_fault table.protocol)) (λ _. go (has_room table.version) (λ _. keeps_rules table)))
+    go (without_vectors table.live) (λ _.
+    go (unless_fault table.protocol (write_fault table.protocol)) (λ _.
+    go (has_room table.version) (λ _. keeps_rules table)))
 
 -- the newest state of a table that may be written, or the first refusal
 unfoldable pub opened_to_write : Log → Result Snapshot TableRefusal

@@ -1,6 +1,6 @@
 use Rattle.std.proofs.Common.{rules, Ok, Err}
 use Rattle.table_load.proofs.Checking.{permitted, has_vectors, unwritten, full, by_rules}
-use Rattle.table_load.proofs.opened.check_writable.Goals as goal
+use Rattle.table_load.proofs.opened_for_writing.check_writable.Goals as goal
 
 pub returns-in_err-check_vectors-clause-answer : goal.returns-in_err-check_vectors-clause-answer
 returns-in_err-check_vectors-clause-answer c = has_vectors c.args.table.now c.in_err-check_vectors.field-0.0 c.from_residual.result (search rules) (search rules)

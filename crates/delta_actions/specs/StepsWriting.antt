@@ -1,4 +1,5 @@
--- The whole numbers of an action are in the range of an i64: for clauses inside the crate, since a definition's numbers may be any.
+-- The whole numbers of an action are in the range of an i64, which the steps of writing say of what they are given,
+-- since a definition's numbers may be any.
 use Rattle.std.specs.Prelude.{⊤, ◌<◌, ◌^◌, ℤ, pos, negsuc, IfSome}
 use Rattle.delta_actions.specs.declared.action.AddAction.{AddAction}
 use Rattle.delta_actions.specs.declared.action.RemoveAction.{RemoveAction}

@@ -2,9 +2,10 @@
 ghost use Rattle.std.specs.Prelude.{◌≡◌, ◌+◌, ◌<◌, ◌^◌, Err, IfOk, OnOk};
 ghost use Rattle.dm_store.specs.Causes.{Counts, StopCause};
 ghost use Rattle.dm_types.specs.declared.refusal.TableRefusal.TheVariants as refusal;
-ghost use Rattle.table_load.specs.Opened as spec;
+ghost use Rattle.table_load.specs.OpenedForWriting as spec;
 ghost use Rattle.table_load.specs.Head.{unless_fault};
-ghost use Rattle.table_load.specs.Tells.{Tells, Gives};
+ghost use Rattle.table_load.specs.StepsLoading.{Gives};
+ghost use Rattle.table_load.specs.Tells.{Tells};
 ghost use Rattle.table_log.specs.Log.{log_of};
 
 use crate::head::{load_head, permit};
