@@ -23,7 +23,8 @@ name_at names number = slice_index_or names (number - 1) (spelled number)
 -- the names of the first draws without those that were to fail
 abbrev pub names_until : List (List ℕ) → List ℕ → ℕ → List (List ℕ)
 names_until names failing zero = []
-names_until names failing (suc draws) = if is_in (suc draws) failing then names_until names failing draws else names_until names failing draws ++ name_at names (suc draws) ∷ []
+names_until names failing (suc draws) = if is_in (suc draws) failing then names_until names failing draws
+    else names_until names failing draws ++ name_at names (suc draws) ∷ []
 
 -- the answers of an object that counts its calls: it tells them until the count stands at its last value
 abbrev pub told_below : {A : Type 0} → ℕ → List A → Option (List A)

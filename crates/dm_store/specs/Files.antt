@@ -31,7 +31,8 @@ WhereTold (Some files) P = P files
 abbrev pub name_below : List ℕ → List ℕ → Option (List ℕ)
 name_below dir path =
     let rest = drop (length dir + 1) path in
-    if bytes_eq (take (length dir) path) dir && slice_index path (length dir) == 47 && not (list_any (λ b. b == 47) rest) then Some rest else None
+    if bytes_eq (take (length dir) path) dir && slice_index path (length dir) == 47
+    && not (list_any (λ b. b == 47) rest) then Some rest else None
 
 -- the names directly below a folder, in the order of their puts
 abbrev pub names_below : List ℕ → Files → List (List ℕ)
@@ -52,7 +53,8 @@ Lists dir told (Err e) = ⊤
 
 -- what a listing says that has the names of a list besides: each name once, and those of both
 abbrev pub ListsBoth : List ℕ → Files → List (List ℕ) → Result (List (List ℕ)) ListFault → Type 0
-ListsBoth dir files added (Ok names) = IsDistinct bytes_eq names × ((name : List ℕ) → is_among name names ≡ (is_among name (names_below dir files) || is_among name added))
+ListsBoth dir files added (Ok names) = IsDistinct bytes_eq names
+    × ((name : List ℕ) → is_among name names ≡ (is_among name (names_below dir files) || is_among name added))
 ListsBoth dir files added (Err e) = ⊤
 
 -- no file has the path
@@ -79,4 +81,5 @@ Puts path bytes old new (Err put.Memory) = IsAbsent path old × (new ≡ old)
 
 -- a listing of told files whose paths differ has each name once
 abbrev pub ListsOnce : Type 0
-ListsOnce = (dir : List ℕ) (files : Files) (names : List (List ℕ)) → ArePathsDistinct files → Lists dir (Some files) (Ok names) → IsDistinct bytes_eq names
+ListsOnce = (dir : List ℕ) (files : Files) (names : List (List ℕ)) → ArePathsDistinct files
+    → Lists dir (Some files) (Ok names) → IsDistinct bytes_eq names

@@ -64,13 +64,15 @@ impl Store for ClaimStore {
     fn list(&mut self, alloc: Global, dir: &str) -> Result<TextList, ListFault>
         ensures names { Lists dir.now (claim_told self.old) result }
         ensures kept { claim_told self.new ≡ claim_told self.old }
-        ensures cause { Counts ListCause (store_faults (claim_inner self.old)) (store_faults (claim_inner self.new)) result }
+        ensures cause { Counts ListCause (store_faults (claim_inner self.old))
+            (store_faults (claim_inner self.new)) result }
         ensures taken { claim_taken self.new ≡ claim_taken self.old }
         ensures both { ListsBoth dir.now (memory_files (claim_inner self.old)) (added_names self.old) result }
         ensures files { memory_files (claim_inner self.new) ≡ memory_files (claim_inner self.old) }
         ensures planned { (result ≡ Err ListFault.Failed) ↔ IsPlanned (store_plan (claim_inner self.old)) }
         ensures plan { store_plan (claim_inner self.new) ≡ next_call (store_plan (claim_inner self.old)) }
-        ensures appending { store_appending (claim_inner self.new) ≡ next_call (store_appending (claim_inner self.old)) }
+        ensures appending { store_appending (claim_inner self.new)
+            ≡ next_call (store_appending (claim_inner self.old)) }
         ensures claimed { claimed_paths self.new ≡ claimed_paths self.old }
         ensures added { added_names self.new ≡ added_names self.old }
     {
@@ -82,12 +84,15 @@ impl Store for ClaimStore {
     fn read(&mut self, alloc: Global, path: &str) -> Result<Bytes, ReadFault>
         ensures bytes { Reads path.now (Some (memory_files (claim_inner self.old))) result }
         ensures kept { claim_told self.new ≡ claim_told self.old }
-        ensures cause { Counts ReadCause (store_faults (claim_inner self.old)) (store_faults (claim_inner self.new)) result }
+        ensures cause { Counts ReadCause (store_faults (claim_inner self.old))
+            (store_faults (claim_inner self.new)) result }
         ensures taken { claim_taken self.new ≡ claim_taken self.old }
         ensures files { memory_files (claim_inner self.new) ≡ memory_files (claim_inner self.old) }
-        ensures planned { (result ≡ Err ReadFault.Failed) ↔ IsPlanned (store_plan (claim_inner self.old)) × IsPresent path.now (Some (memory_files (claim_inner self.old))) }
+        ensures planned { (result ≡ Err ReadFault.Failed) ↔ IsPlanned (store_plan (claim_inner self.old))
+            × IsPresent path.now (Some (memory_files (claim_inner self.old))) }
         ensures plan { store_plan (claim_inner self.new) ≡ next_call (store_plan (claim_inner self.old)) }
-        ensures appending { store_appending (claim_inner self.new) ≡ next_call (store_appending (claim_inner self.old)) }
+        ensures appending { store_appending (claim_inner self.new)
+            ≡ next_call (store_appending (claim_inner self.old)) }
         ensures claimed { claimed_paths self.new ≡ claimed_paths self.old }
         ensures added { added_names self.new ≡ added_names self.old }
     {
@@ -96,16 +101,25 @@ impl Store for ClaimStore {
 
     fn put_new(&mut self, path: &str, bytes: &[u8]) -> Result<(), PutFault>
         ensures puts { Puts path.now bytes.now (claim_told self.old) (claim_told self.new) result }
-        ensures cause { Counts PutCause (store_faults (claim_inner self.old)) (store_faults (claim_inner self.new)) result }
+        ensures cause { Counts PutCause (store_faults (claim_inner self.old))
+            (store_faults (claim_inner self.new)) result }
         ensures taken { Counts TakenCause (claim_taken self.old) (claim_taken self.new) result }
         // A claimed path is taken, and the store behind isn't asked; any other goes to it.
         ensures is_taken { spec.is_among path.now (claimed_paths self.old) ≡ true → result ≡ Err PutFault.Exists }
-        ensures untouched { spec.is_among path.now (claimed_paths self.old) ≡ true → claim_inner self.new ≡ claim_inner self.old }
-        ensures files { spec.is_among path.now (claimed_paths self.old) ≡ false → Puts path.now bytes.now (Some (memory_files (claim_inner self.old))) (Some (memory_files (claim_inner self.new))) result }
-        ensures planned { PutsAsPlanned (store_plan (claim_inner self.old)) (store_appending (claim_inner self.old)) result }
-        ensures failed { result ≡ Err PutFault.Failed → memory_files (claim_inner self.new) ≡ failed_put (store_appending (claim_inner self.old)) path.now bytes.now (memory_files (claim_inner self.old)) }
-        ensures plan { spec.is_among path.now (claimed_paths self.old) ≡ false → store_plan (claim_inner self.new) ≡ next_call (store_plan (claim_inner self.old)) }
-        ensures appending { spec.is_among path.now (claimed_paths self.old) ≡ false → store_appending (claim_inner self.new) ≡ next_call (store_appending (claim_inner self.old)) }
+        ensures untouched { spec.is_among path.now (claimed_paths self.old) ≡ true → claim_inner self.new
+            ≡ claim_inner self.old }
+        ensures files { spec.is_among path.now (claimed_paths self.old) ≡ false
+            → Puts path.now bytes.now (Some (memory_files (claim_inner self.old)))
+            (Some (memory_files (claim_inner self.new))) result }
+        ensures planned { PutsAsPlanned (store_plan (claim_inner self.old))
+            (store_appending (claim_inner self.old)) result }
+        ensures failed { result ≡ Err PutFault.Failed → memory_files (claim_inner self.new)
+            ≡ failed_put (store_appending (claim_inner self.old)) path.now bytes.now
+            (memory_files (claim_inner self.old)) }
+        ensures plan { spec.is_among path.now (claimed_paths self.old) ≡ false → store_plan (claim_inner self.new)
+            ≡ next_call (store_plan (claim_inner self.old)) }
+        ensures appending { spec.is_among path.now (claimed_paths self.old) ≡ false
+            → store_appending (claim_inner self.new) ≡ next_call (store_appending (claim_inner self.old)) }
         ensures claimed { claimed_paths self.new ≡ claimed_paths self.old }
         ensures added { added_names self.new ≡ added_names self.old }
     {

@@ -88,7 +88,8 @@ impl Store for MemoryStore {
         ensures cause { Counts ReadCause (store_faults self.old) (store_faults self.new) result }
         ensures taken { store_taken self.new ≡ store_taken self.old }
         // It fails exactly where that is planned and the path has a file.
-        ensures planned { (result ≡ Err ReadFault.Failed) ↔ IsPlanned (store_plan self.old) × IsPresent path.now (Some (memory_files self.old)) }
+        ensures planned { (result ≡ Err ReadFault.Failed) ↔ IsPlanned (store_plan self.old)
+            × IsPresent path.now (Some (memory_files self.old)) }
         ensures plan { store_plan self.new ≡ next_call (store_plan self.old) }
         ensures appending { store_appending self.new ≡ next_call (store_appending self.old) }
     {
@@ -104,7 +105,8 @@ impl Store for MemoryStore {
         ensures cause { Counts PutCause (store_faults self.old) (store_faults self.new) result }
         ensures taken { Counts TakenCause (store_taken self.old) (store_taken self.new) result }
         ensures planned { PutsAsPlanned (store_plan self.old) (store_appending self.old) result }
-        ensures failed { result ≡ Err PutFault.Failed → memory_files self.new ≡ failed_put (store_appending self.old) path.now bytes.now (memory_files self.old) }
+        ensures failed { result ≡ Err PutFault.Failed → memory_files self.new
+            ≡ failed_put (store_appending self.old) path.now bytes.now (memory_files self.old) }
         ensures plan { store_plan self.new ≡ next_call (store_plan self.old) }
         ensures appending { store_appending self.new ≡ next_call (store_appending self.old) }
     {

@@ -7,7 +7,8 @@ use Rattle.dm_text.specs.Numbers.{numeral}
 
 -- the calendar has the day
 abbrev pub is_calendar_date : ℕ → ℕ → ℕ → Bool
-is_calendar_date y m d = nat_le 1 y && nat_le y 9999 && nat_le 1 m && nat_le m 12 && nat_le 1 d && nat_le d (days_in_month (pos y) m)
+is_calendar_date y m d =
+    nat_le 1 y && nat_le y 9999 && nat_le 1 m && nat_le m 12 && nat_le 1 d && nat_le d (days_in_month (pos y) m)
 
 -- the days from 1970-01-01 to a date
 abbrev pub calendar_day : ℕ → ℕ → ℕ → Option ℤ

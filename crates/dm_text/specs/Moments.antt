@@ -41,5 +41,6 @@ ends_in_z text = slice_index text (length text - 1) == 90
 unfoldable pub timestamp : List ℕ → Option ℤ
 timestamp text =
     if slice_index text 10 == 32 then moment (take 10 text) (drop 11 text)
-    else if (slice_index text 10 == 84) && ends_in_z text then moment (take 10 text) (slice_range text 11 (length text - 1))
+    else if (slice_index text 10 == 84) && ends_in_z text
+    then moment (take 10 text) (slice_range text 11 (length text - 1))
     else None

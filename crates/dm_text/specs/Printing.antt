@@ -23,7 +23,8 @@ point_text scale n = if scale == 0 then [] else 46 ∷ places scale n
 
 -- a decimal number of a scale
 unfoldable pub decimal_text : ℤ → ℕ → List ℕ
-decimal_text n scale = sign_text (is_negative n) ++ decimal (unsigned_abs n / 10 ^ scale) ++ point_text scale (unsigned_abs n)
+decimal_text n scale =
+    sign_text (is_negative n) ++ decimal (unsigned_abs n / 10 ^ scale) ++ point_text scale (unsigned_abs n)
 
 -- two lower-case hexadecimal digits
 abbrev pub hex_pair : ℕ → List ℕ
@@ -39,7 +40,8 @@ date_text n = parts_text (year_of n) (month_of n) (day_of n)
 
 -- `HH:mm:ss.ffffff` of the microseconds of a day
 unfoldable pub clock_text : ℕ → List ℕ
-clock_text t = places 2 (t / 3_600_000_000) ++ (58 ∷ places 2 (t / 60_000_000 % 60)) ++ (58 ∷ places 2 (t / 1_000_000 % 60)) ++ (46 ∷ places 6 t)
+clock_text t = places 2 (t / 3_600_000_000) ++ (58 ∷ places 2 (t / 60_000_000 % 60))
+    ++ (58 ∷ places 2 (t / 1_000_000 % 60)) ++ (46 ∷ places 6 t)
 
 -- the microseconds of a moment's day
 abbrev pub clock_part : ℤ → ℕ

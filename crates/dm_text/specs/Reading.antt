@@ -23,7 +23,8 @@ text_value kind.Byte text = option_map value.Int (whole 7 text)
 text_value kind.Short text = option_map value.Int (whole 15 text)
 text_value kind.Integer text = option_map value.Int (whole 31 text)
 text_value kind.Long text = option_map value.Int (whole 63 text)
-text_value (kind.Decimal precision scale) text = option_map (λ n. value.Dec (record { unscaled = n; scale = scale })) (decimal_number precision scale text)
+text_value (kind.Decimal precision scale) text =
+    option_map (λ n. value.Dec (record { unscaled = n; scale = scale })) (decimal_number precision scale text)
 text_value kind.Str text = if is_utf8 text then Some (value.Text text) else None
 text_value kind.Date text = option_map value.Day (date text)
 text_value kind.Timestamp text = option_map value.Micros (timestamp text)

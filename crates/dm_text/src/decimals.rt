@@ -15,7 +15,8 @@ use std::alloc::AllocError;
 pub(crate) fn read_decimal(text: &[u8], precision: u8, scale: u8) -> Option<Decimal>
     requires precise { precision ≤ MAX_PRECISION }
     requires scaled { scale ≤ precision }
-    ensures { result ≡ option_map (λ n. record { unscaled = n; scale = scale }) (spec.decimal_number precision scale text.now) }
+    ensures { result ≡ option_map (λ n. record { unscaled = n; scale = scale })
+        (spec.decimal_number precision scale text.now) }
 {
     let (minus, behind) = split_sign(text);
     let size = read_fixed(behind, precision - scale, scale)?;

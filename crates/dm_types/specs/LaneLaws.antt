@@ -46,7 +46,8 @@ long_holds kind.Timestamp v serves of = absurd of
 long_holds k v serves of = absurd cc
 
 pub decimal_holds : (k : DataType) (v : Value) → is_decimal k ≡ true → IsOf k v → KeepsIt kept_decimal decimal_value k v
-decimal_holds (kind.Decimal p s) (value.Dec d) serves of = (d.unscaled, refl, ap (λ (n : ℕ). value.Dec (record { unscaled = d.unscaled; scale = n })) (sym of))
+decimal_holds (kind.Decimal p s) (value.Dec d) serves of =
+    (d.unscaled, refl, ap (λ (n : ℕ). value.Dec (record { unscaled = d.unscaled; scale = n })) (sym of))
 decimal_holds (kind.Decimal p s) v serves of = absurd of
 decimal_holds k v serves of = absurd cc
 
@@ -73,7 +74,8 @@ long_held (value.Micros n) k e = (kind.Timestamp, refl, cc)
 long_held v k e = absurd cc
 
 pub decimal_held : (v : Value) (k : ℤ) → kept_decimal v ≡ Some k → IsOfSome is_decimal (decimal_value k) v
-decimal_held (value.Dec d) k e = (kind.Decimal 38 d.scale, refl, ap (λ (n : ℤ). value.Dec (record { unscaled = n; scale = d.scale })) cc)
+decimal_held (value.Dec d) k e =
+    (kind.Decimal 38 d.scale, refl, ap (λ (n : ℤ). value.Dec (record { unscaled = n; scale = d.scale })) cc)
 decimal_held v k e = absurd cc
 
 pub text_held : (v : Value) (k : List ℕ) → kept_text v ≡ Some k → IsOfSome is_text (λ _. value.Text k) v
@@ -87,10 +89,12 @@ bytes_held v k e = absurd cc
 same_scale : (a b : ℤ) (s : ℕ) → int_cmp (a *ℤ pos (10 ^ s)) (b *ℤ pos (10 ^ s)) ≡ int_cmp a b
 same_scale a b s = int_cmp-scaled a b (10 ^ s) (one-le-pow s 10 (omega arith))
 
-pub decimal_orders : (kind : DataType) (a b : ℤ) → is_decimal kind ≡ true → comparison (decimal_value a kind) (decimal_value b kind) ≡ Some (int_cmp a b)
+pub decimal_orders : (kind : DataType) (a b : ℤ) → is_decimal kind ≡ true
+    → comparison (decimal_value a kind) (decimal_value b kind) ≡ Some (int_cmp a b)
 decimal_orders (kind.Decimal p s) a b serves = ap Some (same_scale a b s)
 decimal_orders k a b serves = absurd cc
 
-pub decimal_equals : (kind : DataType) (a b : ℤ) → is_decimal kind ≡ true → is_same (decimal_value a kind) (decimal_value b kind) ≡ int_eq a b
+pub decimal_equals : (kind : DataType) (a b : ℤ) → is_decimal kind ≡ true
+    → is_same (decimal_value a kind) (decimal_value b kind) ≡ int_eq a b
 decimal_equals (kind.Decimal p s) a b serves = ap is_eq (same_scale a b s)
 decimal_equals k a b serves = absurd cc

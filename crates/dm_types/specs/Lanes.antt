@@ -6,7 +6,8 @@ use Rattle.dm_types.specs.declared.value.DataType.TheVariants as kind
 use Rattle.dm_types.specs.declared.value.Value.{Value}
 use Rattle.dm_types.specs.declared.value.Value.TheVariants as value
 
--- a value of a type ("Primitive Types"): a whole number is of the type's width, a decimal has the type's scale. Null is of no type
+-- a value of a type ("Primitive Types"): a whole number is of the type's width, a decimal has the type's scale. Null
+-- is of no type
 abbrev pub IsOf : DataType → Value → Type 0
 IsOf kind.Boolean (value.Bool b) = ⊤
 IsOf kind.Byte (value.Int n) = FitsSigned w8 n

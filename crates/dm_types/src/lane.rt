@@ -65,20 +65,26 @@ pub trait Lane {
     ghost no_null: { (kind : DataType) (k : Self.Kept) → value_of k kind ≢ Null };
 
     /// The value of what is kept gives it back.
-    ghost back: { (kind : DataType) (k : Self.Kept) → IsTrue (serves kind) → is_kept k → kept_of (value_of k kind) ≡ Some k };
+    ghost back: { (kind : DataType) (k : Self.Kept) → IsTrue (serves kind) → is_kept k → kept_of (value_of k kind)
+        ≡ Some k };
 
     /// The value of what is kept is of the type.
-    ghost typed: { (kind : DataType) (k : Self.Kept) → IsTrue (serves kind) → is_kept k → kind ≢ Void → IsOf kind (value_of k kind) };
+    ghost typed: { (kind : DataType) (k : Self.Kept) → IsTrue (serves kind) → is_kept k → kind ≢ Void
+        → IsOf kind (value_of k kind) };
 
     /// What is kept of a value gives the value back, in a column of its type.
-    ghost holds: { (kind : DataType) (v : Value) → IsTrue (serves kind) → IsOf kind v → (k : Self.Kept) × (kept_of v ≡ Some k) × (value_of k kind ≡ v) };
+    ghost holds: { (kind : DataType) (v : Value) → IsTrue (serves kind) → IsOf kind v → (k : Self.Kept)
+        × (kept_of v ≡ Some k) × (value_of k kind ≡ v) };
 
     /// What is kept is of a value that the lane holds: one of a type that it serves.
-    ghost held: { (v : Value) (k : Self.Kept) → kept_of v ≡ Some k → (kind : DataType) × IsTrue (serves kind) × (value_of k kind ≡ v) };
+    ghost held: { (v : Value) (k : Self.Kept) → kept_of v ≡ Some k → (kind : DataType) × IsTrue (serves kind)
+        × (value_of k kind ≡ v) };
 
     /// `equal` agrees with `same`.
-    ghost equals: { (kind : DataType) (a b : Self.Kept) → IsTrue (serves kind) → is_same (value_of a kind) (value_of b kind) ≡ eq a b };
+    ghost equals: { (kind : DataType) (a b : Self.Kept) → IsTrue (serves kind)
+        → is_same (value_of a kind) (value_of b kind) ≡ eq a b };
 
     /// `order` agrees with `compare`.
-    ghost orders: { (kind : DataType) (a b : Self.Kept) → IsTrue (serves kind) → comparison (value_of a kind) (value_of b kind) ≡ Some (cmp a b) };
+    ghost orders: { (kind : DataType) (a b : Self.Kept) → IsTrue (serves kind)
+        → comparison (value_of a kind) (value_of b kind) ≡ Some (cmp a b) };
 }
