@@ -1,5 +1,5 @@
 -- A grammar with a common front, and the same one with the front taken out.
-use Rattle.std.proofs.Common.{◌≡◌, List, [], ◌∷◌, ◌⊎◌, refl, ap, ◌∙◌, inl, inr}
+use Rattle.std.proofs.Common.{List, refl, ap, ◌∙◌, inl, inr}
 use Rattle.std.specs.Prelude.{Option, Some, None}
 use Rattle.token_lang.specs.Lang.{Lang, nothing, both, either, valued}
 use Rattle.token_lang.specs.Exact.{Same}

@@ -24,7 +24,8 @@ pub record Exact {T A : Type 0} (L : Lang T A) (f : Reader T A) (first goes : T 
 
 -- each sentence has a token
 pub record Solid {T A : Type 0} (L : Lang T A) (first : T → Bool) : Type 0 where
-  pub some : (ts : List T) (a : A) (rest : List T) → L.reads ts a rest → (sees first ts ≡ true) × (length rest < length ts)
+  pub some : (ts : List T) (a : A) (rest : List T) → L.reads ts a rest → (sees first ts ≡ true) ×
+      (length rest < length ts)
 
 -- Neither a sentence nor a beginning depends on what stands behind it.
 pub record Local {T A : Type 0} (L : Lang T A) : Type 0 where
@@ -32,8 +33,10 @@ pub record Local {T A : Type 0} (L : Lang T A) : Type 0 where
   pub short : (ts rest : List T) → L.begins ts rest → length rest ≤ length ts
   pub more : (ts : List T) (a : A) (rest w : List T) → L.reads ts a rest → L.reads (ts ++ w) a (rest ++ w)
   pub more_begins : (ts rest w : List T) → L.begins ts rest → L.begins (ts ++ w) (rest ++ w)
-  pub less : (ts s : List T) (a : A) (rest w : List T) → ts ≡ s ++ w → L.reads ts a rest → length w ≤ length rest → (r : List T) × (rest ≡ r ++ w) × L.reads s a r
-  pub less_begins : (ts s rest w : List T) → ts ≡ s ++ w → L.begins ts rest → length w ≤ length rest → (r : List T) × (rest ≡ r ++ w) × L.begins s r
+  pub less : (ts s : List T) (a : A) (rest w : List T) → ts ≡ s ++ w → L.reads ts a rest → length w ≤ length rest →
+      (r : List T) × (rest ≡ r ++ w) × L.reads s a r
+  pub less_begins : (ts s rest w : List T) → ts ≡ s ++ w → L.begins ts rest → length w ≤ length rest → (r : List T) ×
+      (rest ≡ r ++ w) × L.begins s r
 
 -- What stands before rest begins a sentence, and nothing longer does.
 pub record IsLongest {T A : Type 0} (L : Lang T A) (ts rest : List T) : Type 0 where
@@ -48,8 +51,10 @@ pub record Grows {T A : Type 0} (L L' : Lang T A) : Type 0 where
 
 -- Each part at the front of a sentence, or of a beginning, is a beginning.
 pub record Cuts {T A : Type 0} (L : Lang T A) : Type 0 where
-  pub front : (ts w : List T) (a : A) (mid rest : List T) → ts ≡ w ++ mid → L.reads ts a rest → length rest ≤ length mid → L.begins ts mid
-  pub front_begins : (ts w mid rest : List T) → ts ≡ w ++ mid → L.begins ts rest → length rest ≤ length mid → L.begins ts mid
+  pub front : (ts w : List T) (a : A) (mid rest : List T) → ts ≡ w ++ mid → L.reads ts a rest
+      → length rest ≤ length mid → L.begins ts mid
+  pub front_begins : (ts w mid rest : List T) → ts ≡ w ++ mid → L.begins ts rest → length rest ≤ length mid
+      → L.begins ts mid
 
 -- Two ways to write one language.
 pub record Same {T A : Type 0} (L L' : Lang T A) : Type 0 where
