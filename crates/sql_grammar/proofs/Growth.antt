@@ -12,25 +12,25 @@ use Rattle.sql_tree.specs.declared.token.Kind.TheVariants as k
 use Rattle.sql_tree.specs.declared.token.Token.{Token}
 use Rattle.sql_tree.specs.declared.tree.Expr.{Expr}
 use Rattle.sql_tree.specs.declared.tree.WrittenType.{WrittenType}
-use Rattle.sql_tree.specs.Kinds.{is, any, names, names_alone, is_value, compares, multiplies, signs, is_truth, is_plain_type, is_text, is_table, dates}
+use Rattle.sql_tree.specs.Kinds.{is, any, names, names_alone, is_value, compares, multiplies, signs, is_truth, is_plain_type, is_text, dates}
 use Rattle.sql_grammar.specs.Grammar as g
 use Rattle.sql_grammar.specs.Reading.{run_inside, run_type_inside}
 use Rattle.sql_grammar.specs.Tree as tree
 use Rattle.sql_grammar.proofs.Readers.{inside_leads, type_inside_leads}
-use Rattle.sql_grammar.proofs.Fronts.{opening_plain, next_plain, some_plain, commas_plain, type_inside_plain, branch_plain, otherwise_plain, sign_plain, prod_plain, sum_plain, cat_plain, negation_plain, conjunction_plain, inside_plain, statement_plain, ended_plain}
+use Rattle.sql_grammar.proofs.Fronts.{opening_plain, next_plain, some_plain, commas_plain, type_inside_plain, branch_plain, otherwise_plain, sign_plain, prod_plain, sum_plain, cat_plain, negation_plain, conjunction_plain, inside_plain}
 
 -- a token of a kind
-abbrev a : Kind → Token
+abbrev pub a : Kind → Token
 a kind = record { kind = kind; span = record { start = 0; end = 0 } }
 
 -- some token of a class
-class_grows : (class : Kind → Bool) (kind : Kind) → class kind ≡ true → Grows (one (any class)) (one (any class))
+pub class_grows : (class : Kind → Bool) (kind : Kind) → class kind ≡ true → Grows (one (any class)) (one (any class))
 class_grows class kind h = one_grows (any class) (a kind) h
 
-token_grows : (kind : Kind) → is kind (a kind) ≡ true → Grows (g.token kind) (g.token kind)
+pub token_grows : (kind : Kind) → is kind (a kind) ≡ true → Grows (g.token kind) (g.token kind)
 token_grows kind h = one_grows (is kind) (a kind) h
 
-token_local : (kind : Kind) → Local (g.token kind)
+pub token_local : (kind : Kind) → Local (g.token kind)
 token_local kind = one_local (is kind)
 
 opening_grows : (depth : ℕ) (kind : Kind) → is kind (a kind) ≡ true → Grows (g.opening depth kind) (g.opening (suc depth) kind)
@@ -67,131 +67,116 @@ module _ {A : Type 0} {D D' : Lang Token A} (x : Grows D D') (l : Plain D') wher
 
 -- ---- types
 
-type_grows : (depth : ℕ) → Grows (g.written_type depth) (g.written_type (suc depth))
-type_grows depth = either_grows (valued_grows tree.plain_type (class_grows is_plain_type k.Boolean refl))
-    (valued_grows tree.decimal_type (both_grows (token_grows k.DecimalWord refl) (both_grows (opening_grows depth k.Open refl)
+type_grows : (script : List ℕ) (depth : ℕ) → Grows (g.written_type script depth) (g.written_type script (suc depth))
+type_grows script depth = either_grows (valued_grows tree.plain_type (class_grows is_plain_type k.Boolean refl))
+    (valued_grows (tree.decimal_type script) (both_grows (token_grows k.DecimalWord refl) (both_grows (opening_grows depth k.Open refl)
     (both_grows (token_grows k.Whole refl) (both_grows (token_grows k.Comma refl) (both_grows (token_grows k.Whole refl) (token_grows k.Close refl) (token_local k.Whole))
     (token_local k.Comma)) (token_local k.Whole)) (open_local (suc depth) k.Open)) (token_local k.DecimalWord)))
 
-a_type : (ts : List Token) × (t : WrittenType) × (g.type_inside 1).reads ts t []
+a_type : (script : List ℕ) → (ts : List Token) × (t : WrittenType) × (g.type_inside script 1).reads ts t []
 unfolding g.type_inside run_type_inside
-a_type = let ts = a k.Boolean ∷ [] in (ts, tree.plain_type (a k.Boolean), (type_inside_leads 1).meets.exact.fits ts)
+a_type script = let ts = a k.Boolean ∷ [] in (ts, tree.plain_type (a k.Boolean), (type_inside_leads script 1).meets.exact.fits ts)
 
-type_inside_grows : (depth : ℕ) → Grows (g.type_inside depth) (g.type_inside (suc depth))
+type_inside_grows : (script : List ℕ) (depth : ℕ) → Grows (g.type_inside script depth) (g.type_inside script (suc depth))
 unfolding g.type_inside
-type_inside_grows zero = never_grows (g.type_inside 1) a_type
-type_inside_grows (suc depth) = type_grows depth
+type_inside_grows script zero = never_grows (g.type_inside script 1) (a_type script)
+type_inside_grows script (suc depth) = type_grows script depth
 
 question_grows : Grows g.question g.question
 question_grows = valued_grows tree.asked (both_grows (token_grows k.Is refl) (both_grows (maybe_grows (token_grows k.Not refl)) (class_grows is_truth k.Null refl) (maybe_local (one_plain (is k.Not)))) (token_local k.Is))
 
 -- ---- expressions
 
-module _ (depth : ℕ) {B B' : Lang Token Expr} (x : Grows B B') (l : Plain B') where
-  group_grows : Grows (g.group depth B) (g.group (suc depth) B')
+module _ (script : List ℕ) (depth : ℕ) {B B' : Lang Token Expr} (x : Grows B B') (l : Plain B') where
+  group_grows : Grows (g.group script depth B) (g.group script (suc depth) B')
   group_grows = valued_grows tree.grouped (both_grows (opening_grows depth k.Open refl) (both_grows x (token_grows k.Close refl) l.local) (open_local (suc depth) k.Open))
 
-  arguments_grows : Grows (g.arguments depth B) (g.arguments (suc depth) B')
-  arguments_grows = valued_grows tree.called (both_grows (opening_grows depth k.Open refl)
+  arguments_grows : Grows (g.arguments script depth B) (g.arguments script (suc depth) B')
+  arguments_grows = valued_grows (tree.called script) (both_grows (opening_grows depth k.Open refl)
       (both_grows (maybe_grows (commas_grows x l)) (token_grows k.Close refl) (maybe_local (commas_plain l))) (open_local (suc depth) k.Open))
 
-  tail_grows : Grows (g.tail depth B) (g.tail (suc depth) B')
-  tail_grows = either_grows (valued_grows tree.qualified (both_grows (token_grows k.Dot refl) (class_grows names k.Name refl) (token_local k.Dot))) arguments_grows
+  tail_grows : Grows (g.tail script depth B) (g.tail script (suc depth) B')
+  tail_grows = either_grows (valued_grows (tree.qualified script) (both_grows (token_grows k.Dot refl) (class_grows names k.Name refl) (token_local k.Dot))) arguments_grows
 
-  dated_grows : Grows (g.dated depth B) (g.dated (suc depth) B')
-  dated_grows = valued_grows tree.named (both_grows (class_grows dates k.Date refl) (maybe_grows (either_grows (valued_grows tree.dated (class_grows is_text k.Text refl)) tail_grows)) (one_local (any dates)))
+  dated_grows : Grows (g.dated script depth B) (g.dated script (suc depth) B')
+  dated_grows = valued_grows (tree.named script) (both_grows (class_grows dates k.Date refl) (maybe_grows (either_grows (valued_grows (tree.dated script) (class_grows is_text k.Text refl)) tail_grows)) (one_local (any dates)))
 
-  named_grows : Grows (g.named depth B) (g.named (suc depth) B')
-  named_grows = valued_grows tree.named (both_grows (class_grows names_alone k.Name refl) (maybe_grows tail_grows) (one_local (any names_alone)))
+  named_grows : Grows (g.named script depth B) (g.named script (suc depth) B')
+  named_grows = valued_grows (tree.named script) (both_grows (class_grows names_alone k.Name refl) (maybe_grows tail_grows) (one_local (any names_alone)))
 
-  branch_grows : Grows (g.branch depth B) (g.branch (suc depth) B')
+  branch_grows : Grows (g.branch script depth B) (g.branch script (suc depth) B')
   branch_grows = valued_grows tree.branched (both_grows (token_grows k.When refl) (both_grows x (both_grows (token_grows k.Then refl) x (token_local k.Then)) l.local) (token_local k.When))
 
-  otherwise_grows : Grows (g.otherwise depth B) (g.otherwise (suc depth) B')
+  otherwise_grows : Grows (g.otherwise script depth B) (g.otherwise script (suc depth) B')
   otherwise_grows = valued_grows g.second (both_grows (token_grows k.Else refl) x (token_local k.Else))
 
-  case_grows : Grows (g.case depth B) (g.case (suc depth) B')
+  case_grows : Grows (g.case script depth B) (g.case script (suc depth) B')
   case_grows =
-      let branch = branch_plain (suc depth) l in
-      let end = both_grows (maybe_grows otherwise_grows) (token_grows k.End refl) (maybe_local (otherwise_plain (suc depth) l)) in
+      let branch = branch_plain script (suc depth) l in
+      let end = both_grows (maybe_grows otherwise_grows) (token_grows k.End refl) (maybe_local (otherwise_plain script (suc depth) l)) in
       valued_grows tree.cased (both_grows (opening_grows depth k.Case refl) (both_grows (some_grows branch_grows branch) end (some_plain branch).local) (open_local (suc depth) k.Case))
 
-  cast_grows : Grows (g.cast depth B) (g.cast (suc depth) B')
+  cast_grows : Grows (g.cast script depth B) (g.cast script (suc depth) B')
   cast_grows = valued_grows tree.cast_to (both_grows (token_grows k.Cast refl) (both_grows (opening_grows depth k.Open refl) (both_grows x (both_grows (token_grows k.As refl)
-      (both_grows (type_inside_grows depth) (token_grows k.Close refl) (type_inside_plain (suc depth)).local) (token_local k.As)) l.local) (open_local (suc depth) k.Open)) (token_local k.Cast))
+      (both_grows (type_inside_grows script depth) (token_grows k.Close refl) (type_inside_plain script (suc depth)).local) (token_local k.As)) l.local) (open_local (suc depth) k.Open)) (token_local k.Cast))
 
-  primary_grows : Grows (g.primary depth B) (g.primary (suc depth) B')
-  primary_grows = either_grows (valued_grows tree.literal (class_grows is_value k.Whole refl)) (either_grows dated_grows (either_grows group_grows (either_grows named_grows (either_grows case_grows cast_grows))))
+  primary_grows : Grows (g.primary script depth B) (g.primary script (suc depth) B')
+  primary_grows = either_grows (valued_grows (tree.literal script) (class_grows is_value k.Whole refl)) (either_grows dated_grows (either_grows group_grows (either_grows named_grows (either_grows case_grows cast_grows))))
 
-  sign_grows : Grows (g.sign depth B) (g.sign (suc depth) B')
+  sign_grows : Grows (g.sign script depth B) (g.sign script (suc depth) B')
   sign_grows = signed_grows (any signs) (a k.Plus) refl primary_grows
 
-  prod_grows : Grows (g.prod depth B) (g.prod (suc depth) B')
-  prod_grows = chain_grows (any multiplies) (a k.Star) refl sign_grows (sign_plain (suc depth) l).local
+  prod_grows : Grows (g.prod script depth B) (g.prod script (suc depth) B')
+  prod_grows = chain_grows (any multiplies) (a k.Star) refl sign_grows (sign_plain script (suc depth) l).local
 
-  sum_grows : Grows (g.sum depth B) (g.sum (suc depth) B')
-  sum_grows = chain_grows (any signs) (a k.Plus) refl prod_grows (prod_plain (suc depth) l).local
+  sum_grows : Grows (g.sum script depth B) (g.sum script (suc depth) B')
+  sum_grows = chain_grows (any signs) (a k.Plus) refl prod_grows (prod_plain script (suc depth) l).local
 
-  cat_grows : Grows (g.cat depth B) (g.cat (suc depth) B')
-  cat_grows = chain_grows (is k.Concat) (a k.Concat) refl sum_grows (sum_plain (suc depth) l).local
+  cat_grows : Grows (g.cat script depth B) (g.cat script (suc depth) B')
+  cat_grows = chain_grows (is k.Concat) (a k.Concat) refl sum_grows (sum_plain script (suc depth) l).local
 
-  comparison_grows : Grows (g.comparison depth B) (g.comparison (suc depth) B')
+  comparison_grows : Grows (g.comparison script depth B) (g.comparison script (suc depth) B')
   comparison_grows = valued_grows tree.compared (both_grows (class_grows compares k.Equal refl) cat_grows (one_local (any compares)))
 
-  between_grows : Grows (g.between depth B) (g.between (suc depth) B')
-  between_grows = valued_grows tree.between_bounds (both_grows (token_grows k.Between refl) (both_grows cat_grows (both_grows (token_grows k.And refl) cat_grows (token_local k.And)) (cat_plain (suc depth) l).local) (token_local k.Between))
+  between_grows : Grows (g.between script depth B) (g.between script (suc depth) B')
+  between_grows = valued_grows tree.between_bounds (both_grows (token_grows k.Between refl) (both_grows cat_grows (both_grows (token_grows k.And refl) cat_grows (token_local k.And)) (cat_plain script (suc depth) l).local) (token_local k.Between))
 
-  among_grows : Grows (g.among depth B) (g.among (suc depth) B')
+  among_grows : Grows (g.among script depth B) (g.among script (suc depth) B')
   among_grows = valued_grows tree.among (both_grows (token_grows k.In refl) (both_grows (opening_grows depth k.Open refl) (both_grows (commas_grows x l) (token_grows k.Close refl) (commas_plain l).local) (open_local (suc depth) k.Open)) (token_local k.In))
 
-  range_grows : Grows (g.range depth B) (g.range (suc depth) B')
+  range_grows : Grows (g.range script depth B) (g.range script (suc depth) B')
   range_grows = valued_grows tree.maybe_not (both_grows (maybe_grows (token_grows k.Not refl)) (either_grows between_grows among_grows) (maybe_local (one_plain (is k.Not))))
 
-  test_grows : Grows (g.test depth B) (g.test (suc depth) B')
-  test_grows = valued_grows tree.tested (both_grows cat_grows (maybe_grows (either_grows comparison_grows (either_grows question_grows range_grows))) (cat_plain (suc depth) l).local)
+  test_grows : Grows (g.test script depth B) (g.test script (suc depth) B')
+  test_grows = valued_grows tree.tested (both_grows cat_grows (maybe_grows (either_grows comparison_grows (either_grows question_grows range_grows))) (cat_plain script (suc depth) l).local)
 
-  negation_grows : Grows (g.negation depth B) (g.negation (suc depth) B')
+  negation_grows : Grows (g.negation script depth B) (g.negation script (suc depth) B')
   negation_grows = signed_grows (is k.Not) (a k.Not) refl test_grows
 
-  conjunction_grows : Grows (g.conjunction depth B) (g.conjunction (suc depth) B')
-  conjunction_grows = chain_grows (is k.And) (a k.And) refl negation_grows (negation_plain (suc depth) l).local
+  conjunction_grows : Grows (g.conjunction script depth B) (g.conjunction script (suc depth) B')
+  conjunction_grows = chain_grows (is k.And) (a k.And) refl negation_grows (negation_plain script (suc depth) l).local
 
-  disjunction_grows : Grows (g.disjunction depth B) (g.disjunction (suc depth) B')
-  disjunction_grows = chain_grows (is k.Or) (a k.Or) refl conjunction_grows (conjunction_plain (suc depth) l).local
+  disjunction_grows : Grows (g.disjunction script depth B) (g.disjunction script (suc depth) B')
+  disjunction_grows = chain_grows (is k.Or) (a k.Or) refl conjunction_grows (conjunction_plain script (suc depth) l).local
 
 -- an expression of one name
-an_expr : (ts : List Token) × (e : Expr) × (g.inside 1).reads ts e []
+an_expr : (script : List ℕ) → (ts : List Token) × (e : Expr) × (g.inside script 1).reads ts e []
 unfolding g.inside run_inside
-an_expr = let ts = a k.Name ∷ [] in (ts, tree.column (a k.Name), (inside_leads 1).meets.exact.fits ts)
+an_expr script = let ts = a k.Name ∷ [] in (ts, tree.column script (a k.Name), (inside_leads script 1).meets.exact.fits ts)
 
-inside_grows : (depth : ℕ) → Grows (g.inside depth) (g.inside (suc depth))
+inside_grows : (script : List ℕ) (depth : ℕ) → Grows (g.inside script depth) (g.inside script (suc depth))
 unfolding g.inside
-inside_grows zero = never_grows (g.inside 1) an_expr
-inside_grows (suc depth) = disjunction_grows depth (inside_grows depth) (inside_plain (suc depth))
+inside_grows script zero = never_grows (g.inside script 1) (an_expr script)
+inside_grows script (suc depth) = disjunction_grows script depth (inside_grows script depth) (inside_plain script (suc depth))
 
-expr_grows : (depth : ℕ) → Grows (g.expr depth) g.any_expr
+expr_grows : (script : List ℕ) (depth : ℕ) → Grows (g.expr script depth) (g.any_expr script)
 unfolding g.any_expr
-expr_grows depth = any_grows g.expr depth (disjunction_grows depth (inside_grows depth) (inside_plain (suc depth)))
+expr_grows script depth = any_grows (g.expr script) depth (disjunction_grows script depth (inside_grows script depth) (inside_plain script (suc depth)))
 
-pub any_expr_grows : Grows g.any_expr g.any_expr
+pub any_expr_grows : (script : List ℕ) → Grows (g.any_expr script) (g.any_expr script)
 unfolding g.any_expr
-any_expr_grows = all_grow g.expr expr_grows
+any_expr_grows script = all_grow (g.expr script) (expr_grows script)
 
-pub expression_grows : Grows g.expression g.any_expr
+pub expression_grows : (script : List ℕ) → Grows (g.expression script) (g.any_expr script)
 unfolding g.expression
-expression_grows = limit_grows 1000 (expr_grows 64)
-
--- ---- statements
-
-module _ {C C' : Lang Token Expr} (x : Grows C C') (l : Plain C') where
-  show_grows : Grows (g.show_of C) (g.show_of C')
-  show_grows = valued_grows _ (both_grows (token_grows k.Show refl) (both_grows (token_grows k.Files refl) (class_grows is_table k.Table refl) (token_local k.Files)) (token_local k.Show))
-
-  delete_grows : Grows (g.delete_of C) (g.delete_of C')
-  delete_grows = valued_grows _ (both_grows (token_grows k.Delete refl) (both_grows (token_grows k.From refl) (class_grows is_table k.Table refl) (token_local k.From)) (token_local k.Delete))
-
-  statement_grows : Grows (g.statement_of C) (g.statement_of C')
-  statement_grows = either_grows show_grows delete_grows
-
-  pub script_grows : Grows (g.script_of C) (g.script_of C')
-  script_grows = many_grows (valued_grows _ (both_grows statement_grows (token_grows k.Semicolon refl) (statement_plain C').local)) (ended_plain C').local
+expression_grows script = limit_grows 1000 (expr_grows script 64)

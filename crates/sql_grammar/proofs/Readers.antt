@@ -1,6 +1,6 @@
 -- Each production is read by its reader. The side conditions are those of a grammar that is read with one token in view:
 -- no token may both go on with one part and begin the next. They are computed over all kinds.
-use Rattle.std.proofs.Common.{ℕ, zero, suc, Bool, false, refl}
+use Rattle.std.proofs.Common.{ℕ, zero, suc, Bool, false, List, refl}
 use Rattle.std.specs.Prelude.{◌||◌}
 use Rattle.token_lang.specs.Lang.{Lang, both, either, valued}
 use Rattle.token_lang.specs.Run.{Reader}
@@ -11,11 +11,11 @@ use Rattle.sql_tree.specs.declared.token.Kind.{Kind}
 use Rattle.sql_tree.specs.declared.token.Kind.TheVariants as k
 use Rattle.sql_tree.specs.declared.token.Token.{Token}
 use Rattle.sql_tree.specs.declared.tree.Expr.{Expr}
-use Rattle.sql_tree.specs.Kinds.{is, any, names, names_alone, is_value, compares, multiplies, signs, is_truth, is_plain_type, is_text, is_table, dates}
+use Rattle.sql_tree.specs.Kinds.{is, any, names, names_alone, is_value, compares, multiplies, signs, is_truth, is_plain_type, is_text, dates}
 use Rattle.sql_tree.proofs.KindLaws.{apart, among}
 use Rattle.sql_grammar.specs.Grammar as g
 use Rattle.sql_grammar.specs.Reading as r
-use Rattle.sql_grammar.specs.Reading.{first_tail, first_dated_tail, first_range, first_predicate, first_primary, first_expr, first_statement}
+use Rattle.sql_grammar.specs.Reading.{first_tail, first_dated_tail, first_range, first_predicate, first_primary, first_expr}
 use Rattle.sql_grammar.specs.Tree as tree
 
 -- the set of no tokens
@@ -45,7 +45,7 @@ after_conjunction t = is k.And t || after_test t
 abbrev pub after_expr : Token → Bool
 after_expr t = is k.Or t || after_conjunction t
 
-abbrev token_leads : (kind : Kind) → Leads (g.token kind) (r.run_token kind) (is kind) none
+abbrev pub token_leads : (kind : Kind) → Leads (g.token kind) (r.run_token kind) (is kind) none
 token_leads kind = one_leads (is kind)
 
 pub opening_leads : (depth : ℕ) (kind : Kind) → Leads (g.opening depth kind) (r.run_opening depth kind) (is kind) none
@@ -64,16 +64,16 @@ module _ {A : Type 0} {D : Lang Token A} {f : Reader Token A} {first goes : Toke
 
 -- ---- types
 
-pub type_leads : (depth : ℕ) → Leads (g.written_type depth) (r.run_type depth) (λ t. any is_plain_type t || is k.DecimalWord t) none
-type_leads depth = either_leads (valued_leads tree.plain_type (one_leads (any is_plain_type)))
-    (valued_leads tree.decimal_type (both_leads (token_leads k.DecimalWord) (both_leads (opening_leads depth k.Open) (both_leads (token_leads k.Whole)
+pub type_leads : (script : List ℕ) (depth : ℕ) → Leads (g.written_type script depth) (r.run_type script depth) (λ t. any is_plain_type t || is k.DecimalWord t) none
+type_leads script depth = either_leads (valued_leads tree.plain_type (one_leads (any is_plain_type)))
+    (valued_leads (tree.decimal_type script) (both_leads (token_leads k.DecimalWord) (both_leads (opening_leads depth k.Open) (both_leads (token_leads k.Whole)
     (both_leads (token_leads k.Comma) (both_leads (token_leads k.Whole) (token_leads k.Close) (λ t _. refl)) (λ t _. refl)) (λ t _. refl)) (λ t _. refl)) (λ t _. refl)))
     (apart _ _ (λ s. refl))
 
-pub type_inside_leads : (depth : ℕ) → Leads (g.type_inside depth) (r.run_type_inside depth) (λ t. any is_plain_type t || is k.DecimalWord t) none
+pub type_inside_leads : (script : List ℕ) (depth : ℕ) → Leads (g.type_inside script depth) (r.run_type_inside script depth) (λ t. any is_plain_type t || is k.DecimalWord t) none
 unfolding g.type_inside r.run_type_inside
-type_inside_leads zero = never_leads _ _
-type_inside_leads (suc depth) = type_leads depth
+type_inside_leads script zero = never_leads _ _
+type_inside_leads script (suc depth) = type_leads script depth
 
 -- ---- expressions
 
@@ -83,116 +83,99 @@ maybe_not_meets = maybe_meets (token_leads k.Not)
 pub question_leads : Leads g.question r.run_question (is k.Is) none
 question_leads = valued_leads tree.asked (both_leads (token_leads k.Is) (maybe_then_leads maybe_not_meets (one_leads (any is_truth)) (apart _ _ (λ s. refl))) (λ t _. refl))
 
-module _ (depth : ℕ) {B : Lang Token Expr} {f : Reader Token Expr} (x : Leads B f first_expr after_expr) where
-  pub group_leads : Leads (g.group depth B) (r.run_group depth f) (is k.Open) none
+module _ (script : List ℕ) (depth : ℕ) {B : Lang Token Expr} {f : Reader Token Expr} (x : Leads B f first_expr after_expr) where
+  pub group_leads : Leads (g.group script depth B) (r.run_group script depth f) (is k.Open) none
   group_leads = valued_leads tree.grouped (both_leads (opening_leads depth k.Open) (both_leads x (token_leads k.Close) (apart _ _ (λ s. refl))) (λ t _. refl))
 
   -- expressions and commas
   pub list_leads : Leads (g.commas B) (r.run_commas f) first_expr (λ t. is k.Comma t || after_expr t)
   list_leads = goes_leads (λ t. is k.Comma t || after_expr t) (among _ _ (λ s. refl)) (commas_leads x (apart _ _ (λ s. refl)))
 
-  pub arguments_leads : Leads (g.arguments depth B) (r.run_arguments depth f) (is k.Open) none
-  arguments_leads = valued_leads tree.called (both_leads (opening_leads depth k.Open)
+  pub arguments_leads : Leads (g.arguments script depth B) (r.run_arguments script depth f) (is k.Open) none
+  arguments_leads = valued_leads (tree.called script) (both_leads (opening_leads depth k.Open)
       (maybe_then_leads (maybe_meets list_leads) (token_leads k.Close) (apart _ _ (λ s. refl))) (λ t _. refl))
 
-  pub tail_leads : Leads (g.tail depth B) (r.run_tail depth f) first_tail none
-  tail_leads = either_leads (valued_leads tree.qualified (both_leads (token_leads k.Dot) (one_leads (any names)) (λ t _. refl))) arguments_leads (apart _ _ (λ s. refl))
+  pub tail_leads : Leads (g.tail script depth B) (r.run_tail script depth f) first_tail none
+  tail_leads = either_leads (valued_leads (tree.qualified script) (both_leads (token_leads k.Dot) (one_leads (any names)) (λ t _. refl))) arguments_leads (apart _ _ (λ s. refl))
 
-  pub dated_leads : Leads (g.dated depth B) (r.run_dated depth f) (any dates) first_dated_tail
+  pub dated_leads : Leads (g.dated script depth B) (r.run_dated script depth f) (any dates) first_dated_tail
   dated_leads =
-      let end = either_leads (valued_leads tree.dated (one_leads (any is_text))) tail_leads (apart _ _ (λ s. refl)) in
-      goes_leads first_dated_tail (among _ _ (λ s. refl)) (valued_leads tree.named (then_maybe_leads (one_leads (any dates)) (maybe_meets end) (λ t _. refl)))
+      let end = either_leads (valued_leads (tree.dated script) (one_leads (any is_text))) tail_leads (apart _ _ (λ s. refl)) in
+      goes_leads first_dated_tail (among _ _ (λ s. refl)) (valued_leads (tree.named script) (then_maybe_leads (one_leads (any dates)) (maybe_meets end) (λ t _. refl)))
 
-  pub named_leads : Leads (g.named depth B) (r.run_named depth f) (any names_alone) first_tail
-  named_leads = goes_leads first_tail (among _ _ (λ s. refl)) (valued_leads tree.named (then_maybe_leads (one_leads (any names_alone)) (maybe_meets tail_leads) (λ t _. refl)))
+  pub named_leads : Leads (g.named script depth B) (r.run_named script depth f) (any names_alone) first_tail
+  named_leads = goes_leads first_tail (among _ _ (λ s. refl)) (valued_leads (tree.named script) (then_maybe_leads (one_leads (any names_alone)) (maybe_meets tail_leads) (λ t _. refl)))
 
-  pub branch_leads : Leads (g.branch depth B) (r.run_branch depth f) (is k.When) after_expr
+  pub branch_leads : Leads (g.branch script depth B) (r.run_branch script depth f) (is k.When) after_expr
   branch_leads = valued_leads tree.branched (both_leads (token_leads k.When) (both_leads x (both_leads (token_leads k.Then) x (λ t _. refl)) (apart _ _ (λ s. refl))) (λ t _. refl))
 
-  pub branches_leads : Leads (g.some (g.branch depth B)) (r.run_branches depth f) (is k.When) (λ t. is k.When t || after_expr t)
+  pub branches_leads : Leads (g.some (g.branch script depth B)) (r.run_branches script depth f) (is k.When) (λ t. is k.When t || after_expr t)
   branches_leads = goes_leads (λ t. is k.When t || after_expr t) (among _ _ (λ s. refl))
       (valued_leads g.list (then_maybe_leads branch_leads (many_meets branch_leads (apart _ _ (λ s. refl))) (apart _ _ (λ s. refl))))
 
-  pub otherwise_leads : Leads (g.otherwise depth B) (r.run_otherwise depth f) (is k.Else) after_expr
+  pub otherwise_leads : Leads (g.otherwise script depth B) (r.run_otherwise script depth f) (is k.Else) after_expr
   otherwise_leads = valued_leads g.second (both_leads (token_leads k.Else) x (λ t _. refl))
 
-  pub case_leads : Leads (g.case depth B) (r.run_case depth f) (is k.Case) none
+  pub case_leads : Leads (g.case script depth B) (r.run_case script depth f) (is k.Case) none
   case_leads = valued_leads tree.cased (both_leads (opening_leads depth k.Case) (both_leads branches_leads
       (maybe_then_leads (maybe_meets otherwise_leads) (token_leads k.End) (apart _ _ (λ s. refl))) (apart _ _ (λ s. refl))) (λ t _. refl))
 
-  pub cast_leads : Leads (g.cast depth B) (r.run_cast depth f) (is k.Cast) none
+  pub cast_leads : Leads (g.cast script depth B) (r.run_cast script depth f) (is k.Cast) none
   cast_leads = valued_leads tree.cast_to (both_leads (token_leads k.Cast) (both_leads (opening_leads depth k.Open) (both_leads x (both_leads (token_leads k.As)
-      (both_leads (type_inside_leads depth) (token_leads k.Close) (λ t _. refl)) (λ t _. refl)) (apart _ _ (λ s. refl))) (λ t _. refl)) (λ t _. refl))
+      (both_leads (type_inside_leads script depth) (token_leads k.Close) (λ t _. refl)) (λ t _. refl)) (apart _ _ (λ s. refl))) (λ t _. refl)) (λ t _. refl))
 
-  pub primary_leads : Leads (g.primary depth B) (r.run_primary depth f) first_primary first_dated_tail
-  primary_leads = goes_leads first_dated_tail (among _ _ (λ s. refl)) (either_leads (valued_leads tree.literal (one_leads (any is_value)))
+  pub primary_leads : Leads (g.primary script depth B) (r.run_primary script depth f) first_primary first_dated_tail
+  primary_leads = goes_leads first_dated_tail (among _ _ (λ s. refl)) (either_leads (valued_leads (tree.literal script) (one_leads (any is_value)))
       (either_leads dated_leads (either_leads group_leads (either_leads named_leads (either_leads case_leads cast_leads
       (apart _ _ (λ s. refl))) (apart _ _ (λ s. refl))) (apart _ _ (λ s. refl))) (apart _ _ (λ s. refl))) (apart _ _ (λ s. refl)))
 
-  pub sign_leads : Leads (g.sign depth B) (r.run_sign depth f) first_sign first_dated_tail
+  pub sign_leads : Leads (g.sign script depth B) (r.run_sign script depth f) first_sign first_dated_tail
   sign_leads = valued_leads tree.all_prefixed (maybe_then_leads (many_meets (one_leads (any signs)) (λ t _. refl)) primary_leads (apart _ _ (λ s. refl)))
 
-  pub prod_leads : Leads (g.prod depth B) (r.run_prod depth f) first_sign after_prod
+  pub prod_leads : Leads (g.prod script depth B) (r.run_prod script depth f) first_sign after_prod
   prod_leads = chain_leads tree.all_joined (any multiplies) sign_leads (apart _ _ (λ s. refl))
 
-  pub sum_leads : Leads (g.sum depth B) (r.run_sum depth f) first_sign after_sum
+  pub sum_leads : Leads (g.sum script depth B) (r.run_sum script depth f) first_sign after_sum
   sum_leads = chain_leads tree.all_joined (any signs) prod_leads (apart _ _ (λ s. refl))
 
-  pub cat_leads : Leads (g.cat depth B) (r.run_cat depth f) first_sign after_cat
+  pub cat_leads : Leads (g.cat script depth B) (r.run_cat script depth f) first_sign after_cat
   cat_leads = chain_leads tree.all_joined (is k.Concat) sum_leads (apart _ _ (λ s. refl))
 
-  pub comparison_leads : Leads (g.comparison depth B) (r.run_comparison depth f) (any compares) after_cat
+  pub comparison_leads : Leads (g.comparison script depth B) (r.run_comparison script depth f) (any compares) after_cat
   comparison_leads = valued_leads tree.compared (both_leads (one_leads (any compares)) cat_leads (λ t _. refl))
 
-  pub between_leads : Leads (g.between depth B) (r.run_between depth f) (is k.Between) after_cat
+  pub between_leads : Leads (g.between script depth B) (r.run_between script depth f) (is k.Between) after_cat
   between_leads = valued_leads tree.between_bounds (both_leads (token_leads k.Between) (both_leads cat_leads (both_leads (token_leads k.And) cat_leads (λ t _. refl)) (apart _ _ (λ s. refl))) (λ t _. refl))
 
-  pub among_leads : Leads (g.among depth B) (r.run_among depth f) (is k.In) none
+  pub among_leads : Leads (g.among script depth B) (r.run_among script depth f) (is k.In) none
   among_leads = valued_leads tree.among (both_leads (token_leads k.In) (both_leads (opening_leads depth k.Open) (both_leads list_leads (token_leads k.Close) (apart _ _ (λ s. refl))) (λ t _. refl)) (λ t _. refl))
 
-  pub range_leads : Leads (g.range depth B) (r.run_range depth f) first_range after_cat
+  pub range_leads : Leads (g.range script depth B) (r.run_range script depth f) first_range after_cat
   range_leads = goes_leads after_cat (among _ _ (λ s. refl)) (valued_leads tree.maybe_not (maybe_then_leads maybe_not_meets (either_leads between_leads among_leads (apart _ _ (λ s. refl))) (apart _ _ (λ s. refl))))
 
-  pub predicate_leads : Leads (either (g.comparison depth B) (either g.question (g.range depth B))) (r.run_predicate depth f) first_predicate after_cat
+  pub predicate_leads : Leads (either (g.comparison script depth B) (either g.question (g.range script depth B))) (r.run_predicate script depth f) first_predicate after_cat
   predicate_leads = goes_leads after_cat (among _ _ (λ s. refl)) (either_leads comparison_leads (either_leads question_leads range_leads (apart _ _ (λ s. refl))) (apart _ _ (λ s. refl)))
 
-  pub test_leads : Leads (g.test depth B) (r.run_test depth f) first_sign after_test
+  pub test_leads : Leads (g.test script depth B) (r.run_test script depth f) first_sign after_test
   test_leads = goes_leads after_test (among _ _ (λ s. refl)) (valued_leads tree.tested (then_maybe_leads cat_leads (maybe_meets predicate_leads) (apart _ _ (λ s. refl))))
 
-  pub negation_leads : Leads (g.negation depth B) (r.run_negation depth f) first_expr after_test
+  pub negation_leads : Leads (g.negation script depth B) (r.run_negation script depth f) first_expr after_test
   negation_leads = valued_leads tree.all_prefixed (maybe_then_leads (many_meets (token_leads k.Not) (λ t _. refl)) test_leads (apart _ _ (λ s. refl)))
 
-  pub conjunction_leads : Leads (g.conjunction depth B) (r.run_conjunction depth f) first_expr after_conjunction
+  pub conjunction_leads : Leads (g.conjunction script depth B) (r.run_conjunction script depth f) first_expr after_conjunction
   conjunction_leads = chain_leads tree.all_joined (is k.And) negation_leads (apart _ _ (λ s. refl))
 
-  pub disjunction_leads : Leads (g.disjunction depth B) (r.run_disjunction depth f) first_expr after_expr
+  pub disjunction_leads : Leads (g.disjunction script depth B) (r.run_disjunction script depth f) first_expr after_expr
   disjunction_leads = chain_leads tree.all_joined (is k.Or) conjunction_leads (apart _ _ (λ s. refl))
 
-pub inside_leads : (depth : ℕ) → Leads (g.inside depth) (r.run_inside depth) first_expr after_expr
+pub inside_leads : (script : List ℕ) (depth : ℕ) → Leads (g.inside script depth) (r.run_inside script depth) first_expr after_expr
 unfolding g.inside r.run_inside
-inside_leads zero = never_leads first_expr after_expr
-inside_leads (suc depth) = disjunction_leads depth (inside_leads depth)
+inside_leads script zero = never_leads first_expr after_expr
+inside_leads script (suc depth) = disjunction_leads script depth (inside_leads script depth)
 
-pub expr_leads : (depth : ℕ) → Leads (g.expr depth) (r.run_expr depth) first_expr after_expr
-expr_leads depth = disjunction_leads depth (inside_leads depth)
+pub expr_leads : (script : List ℕ) (depth : ℕ) → Leads (g.expr script depth) (r.run_expr script depth) first_expr after_expr
+expr_leads script depth = disjunction_leads script depth (inside_leads script depth)
 
-pub expression_leads : Leads g.expression r.run_expression first_expr after_expr
+pub expression_leads : (script : List ℕ) → Leads (g.expression script) (r.run_expression script) first_expr after_expr
 unfolding g.expression
-expression_leads = limit_leads 1000 (expr_leads 64)
-
--- ---- statements
-
-pub show_leads : Leads (g.show_of g.expression) r.run_show (is k.Show) none
-show_leads = valued_leads _ (both_leads (token_leads k.Show) (both_leads (token_leads k.Files) (one_leads (any is_table)) (λ t _. refl)) (λ t _. refl))
-
-pub delete_leads : Leads (g.delete_of g.expression) r.run_delete (is k.Delete) none
-delete_leads = valued_leads _ (both_leads (token_leads k.Delete) (both_leads (token_leads k.From) (one_leads (any is_table)) (λ t _. refl)) (λ t _. refl))
-
-pub statement_leads : Leads (g.statement_of g.expression) r.run_statement first_statement none
-statement_leads = either_leads show_leads delete_leads (apart _ _ (λ s. refl))
-
-pub ended_leads : Leads (valued (λ p. p.0) (both (g.statement_of g.expression) (g.token k.Semicolon))) r.run_ended first_statement none
-ended_leads = valued_leads _ (both_leads statement_leads (token_leads k.Semicolon) (λ t _. refl))
-
-pub script_meets : Meets g.script r.run_script first_statement (λ t. first_statement t || none t)
-script_meets = many_meets ended_leads (λ t _. refl)
+expression_leads script = limit_leads 1000 (expr_leads script 64)

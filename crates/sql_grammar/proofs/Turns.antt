@@ -28,25 +28,25 @@ unfolding run_opening
 opening_some zero kind ts h = absurd (omega arith)
 opening_some (suc depth) kind ts h = refl
 
-pub type_inside_none : (depth : ℕ) (ts : List Token) → depth ≡ 0 → run_type_inside depth ts ≡ Err ts
+pub type_inside_none : (script : List ℕ) (depth : ℕ) (ts : List Token) → depth ≡ 0 → run_type_inside script depth ts ≡ Err ts
 unfolding run_type_inside
-type_inside_none zero ts h = refl
-type_inside_none (suc depth) ts h = absurd (omega arith)
+type_inside_none script zero ts h = refl
+type_inside_none script (suc depth) ts h = absurd (omega arith)
 
-pub type_inside_some : (depth : ℕ) (ts : List Token) → 0 < depth → run_type_inside depth ts ≡ run_type (depth - 1) ts
+pub type_inside_some : (script : List ℕ) (depth : ℕ) (ts : List Token) → 0 < depth → run_type_inside script depth ts ≡ run_type script (depth - 1) ts
 unfolding run_type_inside
-type_inside_some zero ts h = absurd (omega arith)
-type_inside_some (suc depth) ts h = rw sub-one refl
+type_inside_some script zero ts h = absurd (omega arith)
+type_inside_some script (suc depth) ts h = rw sub-one refl
 
-pub inside_none : (depth : ℕ) (ts : List Token) → depth ≡ 0 → run_inside depth ts ≡ Err ts
+pub inside_none : (script : List ℕ) (depth : ℕ) (ts : List Token) → depth ≡ 0 → run_inside script depth ts ≡ Err ts
 unfolding run_inside
-inside_none zero ts h = refl
-inside_none (suc depth) ts h = absurd (omega arith)
+inside_none script zero ts h = refl
+inside_none script (suc depth) ts h = absurd (omega arith)
 
-pub inside_some : (depth : ℕ) (ts : List Token) → 0 < depth → run_inside depth ts ≡ run_disjunction (depth - 1) (run_inside (depth - 1)) ts
+pub inside_some : (script : List ℕ) (depth : ℕ) (ts : List Token) → 0 < depth → run_inside script depth ts ≡ run_disjunction script (depth - 1) (run_inside script (depth - 1)) ts
 unfolding run_inside
-inside_some zero ts h = absurd (omega arith)
-inside_some (suc depth) ts h = rw sub-one refl
+inside_some script zero ts h = absurd (omega arith)
+inside_some script (suc depth) ts h = rw sub-one refl
 
 -- ---- turns of a chain of operators
 
@@ -85,9 +85,9 @@ list_begins f first g ts us b e = rw e (with_first b (run_many first g (length u
 
 -- ---- what is made of a part, in one step or two
 
-pub ended : (name : Token) (r : Outcome Token (Token → Expr)) → made tree.named (made (λ b. (name, b)) (made Some r)) ≡ made (λ f. f name) r
-ended name (Ok p) = refl
-ended name (Err rest) = refl
+pub ended : (script : List ℕ) (name : Token) (r : Outcome Token (Token → Expr)) → made (tree.named script) (made (λ b. (name, b)) (made Some r)) ≡ made (λ f. f name) r
+ended script name (Ok p) = refl
+ended script name (Err rest) = refl
 
 pub tested_so : (x : Expr) (r : Outcome Token (Expr → Expr)) → made tree.tested (made (λ b. (x, b)) (made Some r)) ≡ made (λ f. f x) r
 tested_so x (Ok p) = refl
@@ -98,11 +98,11 @@ ranged not x (Ok p) = refl
 ranged not x (Err rest) = refl
 
 -- what is neither a comparison nor IS
-pub ranges : (depth : ℕ) (f : Reader Token Expr) (x : Expr) (ts : List Token) → sees (any compares) ts ≡ false → sees (is k.Is) ts ≡ false
-    → made (λ f. f x) (run_predicate depth f ts) ≡ made (λ f. f x) (run_range depth f ts)
-ranges depth f x ts a b = rw (a, b) refl
+pub ranges : (script : List ℕ) (depth : ℕ) (f : Reader Token Expr) (x : Expr) (ts : List Token) → sees (any compares) ts ≡ false → sees (is k.Is) ts ≡ false
+    → made (λ f. f x) (run_predicate script depth f ts) ≡ made (λ f. f x) (run_range script depth f ts)
+ranges script depth f x ts a b = rw (a, b) refl
 
 -- an operand that something is asked of
-pub tests : (depth : ℕ) (f : Reader Token Expr) (ts us : List Token) (x : Expr) → run_cat depth f ts ≡ Ok (x, us) → sees first_predicate us ≡ true
-    → run_test depth f ts ≡ made (λ f. f x) (run_predicate depth f us)
-tests depth f ts us x a b = rw (a, b) (tested_so x (run_predicate depth f us))
+pub tests : (script : List ℕ) (depth : ℕ) (f : Reader Token Expr) (ts us : List Token) (x : Expr) → run_cat script depth f ts ≡ Ok (x, us) → sees first_predicate us ≡ true
+    → run_test script depth f ts ≡ made (λ f. f x) (run_predicate script depth f us)
+tests script depth f ts us x a b = rw (a, b) (tested_so x (run_predicate script depth f us))

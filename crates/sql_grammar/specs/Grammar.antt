@@ -1,4 +1,5 @@
--- The grammar. A production goes with a number, how many brackets and CASEs may still be opened within one another.
+-- The grammar of expressions. A production goes with the script's bytes, at which the tree of its tokens holds names, texts and
+-- numbers, and with a number: how many brackets and CASEs may still be opened within one another.
 use Rattle.std.specs.Prelude.{ℕ, zero, suc, Bool, List, ◌∷◌, Option, Some, None}
 use Rattle.token_lang.specs.Lang.{Lang, one, nothing, never, both, either, valued, many, at_most, any_of}
 use Rattle.sql_tree.specs.declared.token.Kind.{Kind}
@@ -6,8 +7,6 @@ use Rattle.sql_tree.specs.declared.token.Kind.TheVariants as k
 use Rattle.sql_tree.specs.declared.token.Token.{Token}
 use Rattle.sql_tree.specs.declared.tree.WrittenType.{WrittenType}
 use Rattle.sql_tree.specs.declared.tree.Expr.{Expr}
-use Rattle.sql_tree.specs.declared.tree.Stmt.{Stmt}
-use Rattle.sql_tree.specs.declared.tree.Stmt.TheVariants.{ShowFiles, Delete}
 use Rattle.sql_tree.specs.Kinds.{is, any, names, names_alone, is_value, compares, multiplies, signs, is_truth, is_plain_type, is_text, is_table, dates}
 use Rattle.sql_grammar.specs.Tree as tree
 
@@ -63,14 +62,15 @@ table = one (any is_table)
 -- ---- types
 
 -- type = BOOLEAN | TINYINT | SMALLINT | INT | BIGINT | STRING | BINARY | DATE | TIMESTAMP | DECIMAL "(" n "," n ")"
-abbrev pub written_type : ℕ → Lang Token WrittenType
-written_type depth = either (valued tree.plain_type (one (any is_plain_type)))
-    (valued tree.decimal_type (both (token k.DecimalWord) (both (opening depth k.Open) (both whole (both (token k.Comma) (both whole (token k.Close)))))))
+abbrev pub written_type : List ℕ → ℕ → Lang Token WrittenType
+written_type script depth = either (valued tree.plain_type (one (any is_plain_type)))
+    (valued (tree.decimal_type script) (both (token k.DecimalWord) (both (opening depth k.Open) (both whole (both
+    (token k.Comma) (both whole (token k.Close)))))))
 
 -- a type within one more bracket
-unfoldable pub type_inside : ℕ → Lang Token WrittenType
-type_inside zero = never
-type_inside (suc depth) = written_type depth
+unfoldable pub type_inside : List ℕ → ℕ → Lang Token WrittenType
+type_inside script zero = never
+type_inside script (suc depth) = written_type script depth
 
 -- ---- expressions, by what an expression within one more bracket is
 
@@ -78,26 +78,26 @@ type_inside (suc depth) = written_type depth
 abbrev pub question : Lang Token (Expr → Expr)
 question = valued tree.asked (both (token k.Is) (both (maybe (token k.Not)) (one (any is_truth))))
 
-module _ (depth : ℕ) (inside : Lang Token Expr) where
+module _ (script : List ℕ) (depth : ℕ) (inside : Lang Token Expr) where
   -- "(" expr ")"
   abbrev pub group : Lang Token Expr
   group = valued tree.grouped (both (opening depth k.Open) (both inside (token k.Close)))
 
   -- "(" [expr {"," expr}] ")" behind a function's name
   abbrev pub arguments : Lang Token (Token → Expr)
-  arguments = valued tree.called (both (opening depth k.Open) (both (maybe (commas inside)) (token k.Close)))
+  arguments = valued (tree.called script) (both (opening depth k.Open) (both (maybe (commas inside)) (token k.Close)))
 
   -- "." name | arguments
   abbrev pub tail : Lang Token (Token → Expr)
-  tail = either (valued tree.qualified (both (token k.Dot) name)) arguments
+  tail = either (valued (tree.qualified script) (both (token k.Dot) name)) arguments
 
   -- (DATE | TIMESTAMP) text, and these words as names
   abbrev pub dated : Lang Token Expr
-  dated = valued tree.named (both (one (any dates)) (maybe (either (valued tree.dated text) tail)))
+  dated = valued (tree.named script) (both (one (any dates)) (maybe (either (valued (tree.dated script) text) tail)))
 
   -- name ["." name] | name arguments
   abbrev pub named : Lang Token Expr
-  named = valued tree.named (both (one (any names_alone)) (maybe tail))
+  named = valued (tree.named script) (both (one (any names_alone)) (maybe tail))
 
   -- WHEN expr THEN expr
   abbrev pub branch : Lang Token (Expr × Expr)
@@ -113,10 +113,12 @@ module _ (depth : ℕ) (inside : Lang Token Expr) where
 
   -- CAST "(" expr AS type ")"
   abbrev pub cast : Lang Token Expr
-  cast = valued tree.cast_to (both (token k.Cast) (both (opening depth k.Open) (both inside (both (token k.As) (both (type_inside depth) (token k.Close))))))
+  cast = valued tree.cast_to (both (token k.Cast) (both (opening depth k.Open) (both inside (both (token k.As) (both
+      (type_inside script depth) (token k.Close))))))
 
   abbrev pub primary : Lang Token Expr
-  primary = either (valued tree.literal (one (any is_value))) (either dated (either group (either named (either case cast))))
+  primary = either (valued (tree.literal script) (one (any is_value))) (either dated (either group (either named
+      (either case cast))))
 
   -- sign = ("-" | "+") sign | primary
   abbrev pub sign : Lang Token Expr
@@ -167,44 +169,19 @@ module _ (depth : ℕ) (inside : Lang Token Expr) where
   disjunction = chain (is k.Or) conjunction
 
 -- an expression within one more bracket
-unfoldable pub inside : ℕ → Lang Token Expr
-inside zero = never
-inside (suc depth) = disjunction depth (inside depth)
+unfoldable pub inside : List ℕ → ℕ → Lang Token Expr
+inside script zero = never
+inside script (suc depth) = disjunction script depth (inside script depth)
 
 -- the expressions with no more than so many brackets and CASEs open at once
-abbrev pub expr : ℕ → Lang Token Expr
-expr depth = disjunction depth (inside depth)
+abbrev pub expr : List ℕ → ℕ → Lang Token Expr
+expr script depth = disjunction script depth (inside script depth)
 
 -- the expressions of the grammar, with no limits
-unfoldable pub any_expr : Lang Token Expr
-any_expr = any_of expr
+unfoldable pub any_expr : List ℕ → Lang Token Expr
+any_expr script = any_of (expr script)
 
--- Those of no more than 1,000 tokens, and with no more than 64 brackets and CASEs open at once. What begins one has kept to this so far.
-unfoldable pub expression : Lang Token Expr
-expression = at_most 1000 (expr 64)
-
--- ---- statements, over the expressions that may stand in them
-
-module _ (condition : Lang Token Expr) where
-  -- SHOW FILES table
-  abbrev pub show_of : Lang Token Stmt
-  show_of = valued (λ p. ShowFiles (p.1.1).span) (both (token k.Show) (both (token k.Files) table))
-
-  -- DELETE FROM table
-  abbrev pub delete_of : Lang Token Stmt
-  delete_of = valued (λ p. Delete (p.1.1).span) (both (token k.Delete) (both (token k.From) table))
-
-  abbrev pub statement_of : Lang Token Stmt
-  statement_of = either show_of delete_of
-
-  -- script = {statement ";"}
-  abbrev pub script_of : Lang Token (List Stmt)
-  script_of = many (valued (λ p. p.0) (both statement_of (token k.Semicolon)))
-
--- the scripts of the grammar, with no limits
-abbrev pub any_script : Lang Token (List Stmt)
-any_script = script_of any_expr
-
--- those whose expressions are within the limits
-abbrev pub script : Lang Token (List Stmt)
-script = script_of expression
+-- Those of no more than 1,000 tokens, and with no more than 64 brackets and CASEs open at once. What begins one has
+-- kept to this so far.
+unfoldable pub expression : List ℕ → Lang Token Expr
+expression script = at_most 1000 (expr script 64)

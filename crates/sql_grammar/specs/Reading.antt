@@ -6,8 +6,6 @@ use Rattle.sql_tree.specs.declared.token.Kind.TheVariants as k
 use Rattle.sql_tree.specs.declared.token.Token.{Token}
 use Rattle.sql_tree.specs.declared.tree.WrittenType.{WrittenType}
 use Rattle.sql_tree.specs.declared.tree.Expr.{Expr}
-use Rattle.sql_tree.specs.declared.tree.Stmt.{Stmt}
-use Rattle.sql_tree.specs.declared.tree.Stmt.TheVariants.{ShowFiles, Delete}
 use Rattle.sql_tree.specs.Kinds.{is, any, names, names_alone, is_value, compares, multiplies, signs, is_truth, is_plain_type, is_text, is_table, dates}
 use Rattle.sql_grammar.specs.Grammar.{second, list}
 use Rattle.sql_grammar.specs.Tree as tree
@@ -53,21 +51,25 @@ run_table = run_one (any is_table)
 
 -- ---- types
 
-abbrev pub run_decimal : ℕ → Reader Token WrittenType
-run_decimal depth = run_valued tree.decimal_type (run_both (run_token k.DecimalWord) (run_both (run_opening depth k.Open) (run_both (run_token k.Whole) (run_both (run_token k.Comma) (run_both (run_token k.Whole) (run_token k.Close))))))
+abbrev pub run_decimal : List ℕ → ℕ → Reader Token WrittenType
+run_decimal script depth = run_valued (tree.decimal_type script) (run_both (run_token k.DecimalWord) (run_both
+    (run_opening depth k.Open) (run_both (run_token k.Whole) (run_both (run_token k.Comma) (run_both
+    (run_token k.Whole) (run_token k.Close))))))
 
-abbrev pub run_type : ℕ → Reader Token WrittenType
-run_type depth = run_either (any is_plain_type) (run_valued tree.plain_type (run_one (any is_plain_type))) (run_decimal depth)
+abbrev pub run_type : List ℕ → ℕ → Reader Token WrittenType
+run_type script depth = run_either (any is_plain_type) (run_valued tree.plain_type (run_one (any is_plain_type)))
+    (run_decimal script depth)
 
-unfoldable pub run_type_inside : ℕ → Reader Token WrittenType
-run_type_inside zero ts = Err ts
-run_type_inside (suc depth) ts = run_type depth ts
+unfoldable pub run_type_inside : List ℕ → ℕ → Reader Token WrittenType
+run_type_inside script zero ts = Err ts
+run_type_inside script (suc depth) ts = run_type script depth ts
 
 -- ---- expressions
 
 -- what an operand without signs begins with
 abbrev pub first_primary : Token → Bool
-first_primary t = any is_value t || (any dates t || (is k.Open t || (any names_alone t || (is k.Case t || is k.Cast t))))
+first_primary t = any is_value t || (any dates t || (is k.Open t || (any names_alone t ||
+    (is k.Case t || is k.Cast t))))
 
 -- what an expression begins with
 abbrev pub first_expr : Token → Bool
@@ -88,11 +90,11 @@ first_range t = is k.Not t || (is k.Between t || is k.In t)
 abbrev pub first_predicate : Token → Bool
 first_predicate t = any compares t || (is k.Is t || first_range t)
 
-abbrev pub run_qualified : Reader Token (Token → Expr)
-run_qualified = run_valued tree.qualified (run_both (run_token k.Dot) run_name)
+abbrev pub run_qualified : List ℕ → Reader Token (Token → Expr)
+run_qualified script = run_valued (tree.qualified script) (run_both (run_token k.Dot) run_name)
 
-abbrev pub run_literal : Reader Token Expr
-run_literal = run_valued tree.literal (run_one (any is_value))
+abbrev pub run_literal : List ℕ → Reader Token Expr
+run_literal script = run_valued (tree.literal script) (run_one (any is_value))
 
 abbrev pub run_maybe_not : Reader Token (Option Token)
 run_maybe_not = run_maybe (is k.Not) (run_token k.Not)
@@ -100,27 +102,30 @@ run_maybe_not = run_maybe (is k.Not) (run_token k.Not)
 abbrev pub run_question : Reader Token (Expr → Expr)
 run_question = run_valued tree.asked (run_both (run_token k.Is) (run_both run_maybe_not (run_one (any is_truth))))
 
-module _ (depth : ℕ) (inside : Reader Token Expr) where
+module _ (script : List ℕ) (depth : ℕ) (inside : Reader Token Expr) where
   abbrev pub run_group : Reader Token Expr
   run_group = run_valued tree.grouped (run_both (run_opening depth k.Open) (run_both inside (run_token k.Close)))
 
   abbrev pub run_arguments : Reader Token (Token → Expr)
-  run_arguments = run_valued tree.called (run_both (run_opening depth k.Open) (run_both (run_maybe first_expr (run_commas inside)) (run_token k.Close)))
+  run_arguments = run_valued (tree.called script) (run_both (run_opening depth k.Open) (run_both (run_maybe first_expr
+      (run_commas inside)) (run_token k.Close)))
 
   abbrev pub run_tail : Reader Token (Token → Expr)
-  run_tail = run_either (is k.Dot) run_qualified run_arguments
+  run_tail = run_either (is k.Dot) (run_qualified script) run_arguments
 
   abbrev pub run_dated_tail : Reader Token (Token → Expr)
-  run_dated_tail = run_either (any is_text) (run_valued tree.dated (run_one (any is_text))) run_tail
+  run_dated_tail = run_either (any is_text) (run_valued (tree.dated script) (run_one (any is_text))) run_tail
 
   abbrev pub run_dated : Reader Token Expr
-  run_dated = run_valued tree.named (run_both (run_one (any dates)) (run_maybe first_dated_tail run_dated_tail))
+  run_dated = run_valued (tree.named script) (run_both (run_one (any dates))
+      (run_maybe first_dated_tail run_dated_tail))
 
   abbrev pub run_named : Reader Token Expr
-  run_named = run_valued tree.named (run_both (run_one (any names_alone)) (run_maybe first_tail run_tail))
+  run_named = run_valued (tree.named script) (run_both (run_one (any names_alone)) (run_maybe first_tail run_tail))
 
   abbrev pub run_branch : Reader Token (Expr × Expr)
-  run_branch = run_valued tree.branched (run_both (run_token k.When) (run_both inside (run_both (run_token k.Then) inside)))
+  run_branch = run_valued tree.branched (run_both (run_token k.When) (run_both inside (run_both
+      (run_token k.Then) inside)))
 
   abbrev pub run_branches : Reader Token (List (Expr × Expr))
   run_branches = run_some (is k.When) run_branch
@@ -132,13 +137,16 @@ module _ (depth : ℕ) (inside : Reader Token Expr) where
   run_maybe_otherwise = run_maybe (is k.Else) run_otherwise
 
   abbrev pub run_case : Reader Token Expr
-  run_case = run_valued tree.cased (run_both (run_opening depth k.Case) (run_both run_branches (run_both run_maybe_otherwise (run_token k.End))))
+  run_case = run_valued tree.cased (run_both (run_opening depth k.Case) (run_both run_branches
+      (run_both run_maybe_otherwise (run_token k.End))))
 
   abbrev pub run_cast : Reader Token Expr
-  run_cast = run_valued tree.cast_to (run_both (run_token k.Cast) (run_both (run_opening depth k.Open) (run_both inside (run_both (run_token k.As) (run_both (run_type_inside depth) (run_token k.Close))))))
+  run_cast = run_valued tree.cast_to (run_both (run_token k.Cast) (run_both (run_opening depth k.Open)
+      (run_both inside (run_both (run_token k.As) (run_both (run_type_inside script depth) (run_token k.Close))))))
 
   abbrev pub run_primary : Reader Token Expr
-  run_primary = run_either (any is_value) run_literal (run_either (any dates) run_dated (run_either (is k.Open) run_group (run_either (any names_alone) run_named (run_either (is k.Case) run_case run_cast))))
+  run_primary = run_either (any is_value) (run_literal script) (run_either (any dates) run_dated (run_either
+      (is k.Open) run_group (run_either (any names_alone) run_named (run_either (is k.Case) run_case run_cast))))
 
   abbrev pub run_sign : Reader Token Expr
   run_sign = run_signed (any signs) run_primary
@@ -156,10 +164,12 @@ module _ (depth : ℕ) (inside : Reader Token Expr) where
   run_comparison = run_valued tree.compared (run_both (run_one (any compares)) run_cat)
 
   abbrev pub run_between : Reader Token (Option Token → Expr → Expr)
-  run_between = run_valued tree.between_bounds (run_both (run_token k.Between) (run_both run_cat (run_both (run_token k.And) run_cat)))
+  run_between = run_valued tree.between_bounds (run_both (run_token k.Between) (run_both run_cat (run_both
+      (run_token k.And) run_cat)))
 
   abbrev pub run_among : Reader Token (Option Token → Expr → Expr)
-  run_among = run_valued tree.among (run_both (run_token k.In) (run_both (run_opening depth k.Open) (run_both (run_commas inside) (run_token k.Close))))
+  run_among = run_valued tree.among (run_both (run_token k.In) (run_both (run_opening depth k.Open) (run_both
+      (run_commas inside) (run_token k.Close))))
 
   abbrev pub run_range : Reader Token (Expr → Expr)
   run_range = run_valued tree.maybe_not (run_both run_maybe_not (run_either (is k.Between) run_between run_among))
@@ -179,32 +189,12 @@ module _ (depth : ℕ) (inside : Reader Token Expr) where
   abbrev pub run_disjunction : Reader Token Expr
   run_disjunction = run_chain (is k.Or) run_conjunction
 
-unfoldable pub run_inside : ℕ → Reader Token Expr
-run_inside zero ts = Err ts
-run_inside (suc depth) ts = run_disjunction depth (run_inside depth) ts
+unfoldable pub run_inside : List ℕ → ℕ → Reader Token Expr
+run_inside script zero ts = Err ts
+run_inside script (suc depth) ts = run_disjunction script depth (run_inside script depth) ts
 
-abbrev pub run_expr : ℕ → Reader Token Expr
-run_expr depth = run_disjunction depth (run_inside depth)
+abbrev pub run_expr : List ℕ → ℕ → Reader Token Expr
+run_expr script depth = run_disjunction script depth (run_inside script depth)
 
-abbrev pub run_expression : Reader Token Expr
-run_expression = run_at_most 1000 (run_expr 64)
-
--- ---- statements
-
-abbrev pub run_show : Reader Token Stmt
-run_show = run_valued (λ p. ShowFiles (p.1.1).span) (run_both (run_token k.Show) (run_both (run_token k.Files) run_table))
-
-abbrev pub run_delete : Reader Token Stmt
-run_delete = run_valued (λ p. Delete (p.1.1).span) (run_both (run_token k.Delete) (run_both (run_token k.From) run_table))
-
-abbrev pub run_statement : Reader Token Stmt
-run_statement = run_either (is k.Show) run_show run_delete
-
-abbrev pub first_statement : Token → Bool
-first_statement t = is k.Show t || is k.Delete t
-
-abbrev pub run_ended : Reader Token Stmt
-run_ended = run_valued (λ p. p.0) (run_both run_statement (run_token k.Semicolon))
-
-abbrev pub run_script : Reader Token (List Stmt)
-run_script = run_all first_statement run_ended
+abbrev pub run_expression : List ℕ → Reader Token Expr
+run_expression script = run_at_most 1000 (run_expr script 64)

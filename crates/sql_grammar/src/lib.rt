@@ -6,5 +6,6 @@ mod laws;
 
 pub use laws::{
     beginnings_are_fronts_of_expressions, beginnings_are_fronts_of_scripts, beginnings_go_on,
-    common_fronts, fronts_begin, limits_only_refuse, places_are_first, places_are_one,
+    common_fronts, fronts_begin, limits_are_exact, limits_only_refuse, places_are_first,
+    places_are_one, tables_stand_where_due, trees_are_held,
 };

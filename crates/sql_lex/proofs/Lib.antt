@@ -4,7 +4,9 @@ pub mod Fronts
 pub mod Halves
 pub mod Longest
 pub mod Meaning
+pub mod Named
 pub mod Quoting
+pub mod Reserved
 pub mod Scan
 pub mod SignLengths
 pub mod Spelling

@@ -18,7 +18,7 @@ use Rattle.sql_lex.specs.declared.bytes.Class.TheVariants as class
 use Rattle.sql_lex.specs.declared.bytes.Piece.{Piece}
 use Rattle.sql_lex.specs.declared.lexer.Before.{Before}
 use Rattle.sql_lex.specs.Bytes.{is_in, run, are_in, begins_comment, begins_bytes}
-use Rattle.sql_lex.specs.Content.{AreMeant, Means, name_of, text_of, number_of, is_number, is_quoted, is_word, if_text, halved, decoded}
+use Rattle.sql_lex.specs.Content.{AreMeant, Means, name_of, text_of, number_of, table_of, is_number, is_quoted, is_word, if_text, halved, decoded}
 use Rattle.sql_lex.specs.Numbers.{number, number_len, number_kind, whole_kind, significant, unscaled}
 use Rattle.sql_lex.specs.Quotes.{inside, closing, closed, quoted, quoted_kind, text_kind, name_kind, bytes, bytes_kind, hex_digits}
 use Rattle.sql_lex.specs.Signs.{sign_in, signs, sign}
@@ -32,6 +32,7 @@ use Rattle.std.proofs.Common.{length-drop}
 use Rattle.sql_lex.specs.Words.{kind_in, reserved, placed, word_kind, word}
 use Rattle.sql_lex.proofs.Fronts.{run_take, taken, number_take, Ends, ends, get_later}
 use Rattle.sql_lex.proofs.Halves.{halved_text}
+use Rattle.sql_lex.proofs.Named.{name_is_text}
 use Rattle.sql_lex.proofs.Within.{letter_goes_on, number_within, run_some, run_within, leaves_room}
 
 -- ---- kinds that mean a name at most
@@ -161,12 +162,15 @@ sign_means z y = in_means signs z y refl
 
 -- ---- tables
 
+table_named : (z : List ℕ) → is_table_name z ≡ true → IsSome (table_of z)
+table_named z is = rw is (if_some z (name_is_text z is))
+
 table_means : (z : List ℕ) → Means (table_kind z) z
 table_means z =
     choose (λ kind. Means kind z) (not (is_table_name z)) k.Bad (if str_eq_ignore_ascii_case z (codes "table_changes") then k.TableChanges else k.Table)
     (λ _. bad_means z)
-    (λ e. let is : is_table_name z ≡ true = undenied (is_table_name z) e in
-    choose (λ kind. Means kind z) (str_eq_ignore_ascii_case z (codes "table_changes")) k.TableChanges k.Table (λ _. is) (λ _. is))
+    (λ e. let found = table_named z (undenied (is_table_name z) e) in
+    choose (λ kind. Means kind z) (str_eq_ignore_ascii_case z (codes "table_changes")) k.TableChanges k.Table (λ _. found) (λ _. found))
   where
     undenied : (v : Bool) → not v ≡ false → v ≡ true
     undenied true h = refl
@@ -359,4 +363,4 @@ meant z at state (t ∷ ts) h = All-cons (λ (t : Token). Means t.kind (take (t.
 
 pub tokens_mean : (z : List ℕ) → AreMeant z (tokens z)
 unfolding StandIn
-tokens_mean z = meant z 0 before.Other (tokens z) (tokens_stand z)
+tokens_mean z = meant z 0 before.Start (tokens z) (tokens_stand z)

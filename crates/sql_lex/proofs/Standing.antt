@@ -75,7 +75,7 @@ stand_from (suc left) z at state inside room =
 
 pub tokens_stand : (z : List ℕ) → StandIn z (tokens z)
 unfolding StandIn tokens
-tokens_stand z = stand_from (length z) z 0 before.Other (omega arith) (omega arith)
+tokens_stand z = stand_from (length z) z 0 before.Start (omega arith) (omega arith)
 
 ascend : (z : List ℕ) (at : ℕ) (state : Before) (ts : List Token) → StandFrom z at state ts → AreParts at (length z) ts
 ascend z at state [] h = tt
@@ -83,7 +83,7 @@ ascend z at state (t ∷ ts) h = (h.0, h.2, ascend z t.span.«end» (after state
 
 pub spans_ascend : (z : List ℕ) → AreParts 0 (length z) (tokens z)
 unfolding StandIn
-spans_ascend z = ascend z 0 before.Other (tokens z) (tokens_stand z)
+spans_ascend z = ascend z 0 before.Start (tokens z) (tokens_stand z)
 
 -- white space and comments hold no token
 blank_scan : (z : List ℕ) (at to : ℕ) (state : Before) → IsBlank z at to → scan 0 at state (drop at z) ≡ scan 0 to state (drop to z)
@@ -113,4 +113,4 @@ only z at state (t ∷ ts) h =
 
 pub tokens_alone : (z : List ℕ) (ts : List Token) → StandIn z ts → ts ≡ tokens z
 unfolding StandIn tokens
-tokens_alone z ts h = only z 0 before.Other ts h
+tokens_alone z ts h = only z 0 before.Start ts h

@@ -1,5 +1,5 @@
 -- Tests of texts.
-use Rattle.std.proofs.Common.{◌≡◌, ◌∙◌, ℕ, List, Bool, true, false, Option, Some, None, ap, refl}
+use Rattle.std.proofs.Common.{◌≡◌, ℕ, List, Bool, true, false, Option, Some, None, ap, refl}
 use Rattle.std.specs.Prelude.{IsTrue, IsSome, IfSome, if◌then◌else◌, IsUtf8, ◌↔◌}
 use Rattle.std.specs.Cmp.{both_ways}
 use Rattle.std.specs.Str.{bytes_eq, is_utf8}

@@ -9,7 +9,8 @@ use Rattle.sql_tree.specs.declared.token.Kind.TheVariants as k
 use Rattle.sql_tree.specs.declared.token.Token.{Token}
 use Rattle.sql_lex.specs.Tables.{is_table_name}
 use Rattle.sql_lex.specs.declared.bytes.Class.TheVariants as class
-use Rattle.sql_lex.specs.declared.content.Number.{Number}
+use Rattle.sql_tree.specs.Places.{slice}
+use Rattle.sql_tree.specs.declared.tree.Number.{Number}
 use Rattle.sql_lex.specs.Bytes.{run, are_in, begins_bytes}
 use Rattle.sql_lex.specs.Numbers.{significant, unscaled, number_len, fraction_len}
 use Rattle.sql_lex.specs.Quotes.{closing, inside, hex_digits}
@@ -52,6 +53,10 @@ name_of z =
     if is_quoted 96 z then (if nat_lt 2 (length z) then if_text (halved 96 false (inside z)) else None)
     else (if is_word z then if_text z else None)
 
+-- all bytes of a table's name
+abbrev pub table_of : List ℕ → Option (List ℕ)
+table_of z = if is_table_name z then if_text z else None
+
 -- the text between quotes (39)
 abbrev pub text_of : List ℕ → Option (List ℕ)
 text_of z = if is_quoted 39 z then if_text (halved 39 false (inside z)) else None
@@ -84,7 +89,8 @@ precision z = max 1 (significant (take (run class.Digit z) z) + scale z)
 
 -- the number without its point, its precision and its scale, which is 0 for a whole
 abbrev pub number_of : List ℕ → Option Number
-number_of z = if is_number z then Some (record { unscaled = unscaled z; precision = precision z; scale = scale z }) else None
+number_of z = if is_number z then Some
+    (record { unscaled = unscaled z; precision = precision z; scale = scale z }) else None
 
 -- ---- spellings
 
@@ -106,10 +112,10 @@ Means k.Decimal z = IsSome (number_of z)
 Means k.Text z = IsSome (text_of z)
 Means k.TableText z = IsSome (text_of z)
 Means k.Bytes z = IsSome (bytes_of z)
-Means k.Table z = is_table_name z ≡ true
-Means k.TableChanges z = is_table_name z ≡ true
+Means k.Table z = IsSome (table_of z)
+Means k.TableChanges z = IsSome (table_of z)
 Means kind z = names kind ≡ true → IsSome (name_of z)
 
 -- each token, taken alone, means what its kind says
 abbrev pub AreMeant : List ℕ → List Token → Type 0
-AreMeant z ts = All (λ t. Means t.kind (take (t.span.«end» - t.span.start) (drop t.span.start z))) ts
+AreMeant z ts = All (λ t. Means t.kind (slice z t.span)) ts

@@ -42,7 +42,8 @@ whole_kind n = if nat_lt n (2 ^ 63) then k.Whole else k.LargeWhole
 
 -- at most 38 digits stand behind the leading zeros
 abbrev pub number_kind : List ℕ → Kind
-number_kind z = if nat_lt 38 (significant z) then k.Bad else (if are_in class.Digit z then whole_kind (unscaled z) else k.Decimal)
+number_kind z = if nat_lt 38 (significant z) then k.Bad else (if are_in class.Digit z then whole_kind
+    (unscaled z) else k.Decimal)
 
 -- the number at the front
 abbrev pub number : List ℕ → Piece

@@ -31,4 +31,4 @@ StandFrom z at state (t ∷ ts) =
 
 -- the tokens stand in the bytes one after the other, and nothing else does
 unfoldable pub StandIn : List ℕ → List Token → Type 0
-StandIn z ts = StandFrom z 0 before.Other ts
+StandIn z ts = StandFrom z 0 before.Start ts

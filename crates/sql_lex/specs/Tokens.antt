@@ -17,13 +17,22 @@ use Rattle.sql_lex.specs.Words.{word}
 
 -- ---- where a table's name is due
 
--- a table's name follows FROM, INTO, TABLE and USING
+-- a table's name follows FROM, INTO and TABLE
 abbrev pub names_table : Kind → Bool
 names_table k.From = true
 names_table k.Into = true
 names_table k.TableWord = true
-names_table k.Using = true
 names_table _ = false
+
+-- .. and USING, but in a SELECT, whose USING stands before STATS
+abbrev pub uses_table : Kind → Bool
+uses_table k.Using = true
+uses_table _ = false
+
+-- .. and UPDATE that isn't behind THEN
+abbrev pub is_update : Kind → Bool
+is_update k.Update = true
+is_update _ = false
 
 -- .. and FILES, IDENTITIES and ROWS behind SHOW
 abbrev pub is_shown : Kind → Bool
@@ -32,34 +41,49 @@ is_shown k.Identities = true
 is_shown k.Rows = true
 is_shown _ = false
 
+-- .. and FEED behind VERIFY
 abbrev pub is_feed : Kind → Bool
 is_feed k.Feed = true
 is_feed _ = false
 
-abbrev pub is_update : Kind → Bool
-is_update k.Update = true
-is_update _ = false
+-- .. and OPTIMIZE that begins a statement
+abbrev pub is_optimize : Kind → Bool
+is_optimize k.Optimize = true
+is_optimize _ = false
 
--- .. and FEED behind VERIFY, and UPDATE that isn't behind THEN
 abbrev pub wants_table : Before → Kind → Bool
-wants_table before.Show kind = names_table kind || (is_update kind || is_shown kind)
-wants_table before.Verify kind = names_table kind || (is_update kind || is_feed kind)
-wants_table before.Then kind = names_table kind
-wants_table _ kind = names_table kind || is_update kind
+wants_table before.Start kind = names_table kind || (uses_table kind || (is_update kind || is_optimize kind))
+wants_table before.Show kind = names_table kind || (uses_table kind || (is_update kind || is_shown kind))
+wants_table before.Verify kind = names_table kind || (uses_table kind || (is_update kind || is_feed kind))
+wants_table before.Then kind = names_table kind || uses_table kind
+wants_table before.Select kind = names_table kind
+wants_table before.SelectTable kind = names_table kind
+wants_table _ kind = names_table kind || (uses_table kind || is_update kind)
 
--- the tokens that matter for the one behind the next
-abbrev pub stands_before : Kind → Before
-stands_before k.Show = before.Show
-stands_before k.Verify = before.Verify
-stands_before k.Then = before.Then
-stands_before _ = before.Other
+abbrev pub is_in_select : Before → Bool
+is_in_select before.Select = true
+is_in_select before.SelectTable = true
+is_in_select _ = false
+
+-- the tokens that matter for the one behind the next; a SELECT goes on to its semicolon
+abbrev pub stands_before : Bool → Kind → Before
+stands_before selects k.Semicolon = before.Start
+stands_before selects k.Show = before.Show
+stands_before selects k.Verify = before.Verify
+stands_before selects k.Select = before.Select
+stands_before true kind = before.Select
+stands_before false k.Then = before.Then
+stands_before false _ = before.Other
 
 -- what stands before the token behind one of this kind
 abbrev pub after : Before → Kind → Before
-after state kind = if wants_table state kind then before.Table else stands_before kind
+after state kind =
+    if wants_table state kind then (if is_in_select state then before.SelectTable else before.Table)
+    else stands_before (is_in_select state) kind
 
 abbrev pub is_table_due : Before → Bool
 is_table_due before.Table = true
+is_table_due before.SelectTable = true
 is_table_due _ = false
 
 -- ---- the token at the front of bytes
@@ -88,7 +112,8 @@ comment_len z = if is_utf8 (take (run class.Line z) z) then run class.Line z els
 -- how many bytes of white space, or of one comment, stand at the front
 unfoldable pub gap : List ℕ → ℕ
 gap [] = 0
-gap (b ∷ z) = if is_in class.Blank b then run class.Blank (b ∷ z) else (if begins_comment (b ∷ z) then comment_len (b ∷ z) else 0)
+gap (b ∷ z) = if is_in class.Blank b then run class.Blank (b ∷ z) else (if begins_comment (b ∷ z) then comment_len
+    (b ∷ z) else 0)
 
 abbrev pub placed : ℕ → Piece → Token
 placed at piece = record { kind = piece.kind; span = record { start = at; «end» = at + piece.len } }
@@ -102,4 +127,4 @@ scan zero at state (b ∷ z) =
     else (let t = token state (b ∷ z) in placed at t ∷ scan (t.len - 1) (at + 1) (after state t.kind) z)
 
 unfoldable pub tokens : List ℕ → List Token
-tokens z = scan 0 0 before.Other z
+tokens z = scan 0 0 before.Start z

@@ -1,5 +1,5 @@
 -- The words of the grammar.
-use Rattle.std.specs.Prelude.{ℕ, if◌then◌else◌, List, [], ◌∷◌, ◌++◌, take, codes}
+use Rattle.std.specs.Prelude.{ℕ, Bool, false, ◌||◌, if◌then◌else◌, List, [], ◌∷◌, ◌++◌, take, codes}
 use Rattle.std.specs.Str.{str_eq_ignore_ascii_case}
 use Rattle.sql_tree.specs.declared.token.Kind.{Kind}
 use Rattle.sql_tree.specs.declared.token.Kind.TheVariants as k
@@ -42,7 +42,15 @@ placed =
     (codes "DECIMAL", k.DecimalWord) ∷ (codes "ENABLE", k.Enable) ∷ (codes "ROW", k.Row) ∷
     (codes "TRACKING", k.Tracking) ∷ (codes "ADD", k.Add) ∷ (codes "COLUMN", k.Column) ∷
     (codes "RENAME", k.Rename) ∷ (codes "DROP", k.Drop) ∷ (codes "OPTIMIZE", k.Optimize) ∷
-    (codes "RESTORE", k.Restore) ∷ []
+    (codes "RESTORE", k.Restore) ∷ (codes "STATS", k.Stats) ∷ []
+
+-- the word stands in a list, in either case
+abbrev pub is_listed : List (List ℕ × Kind) → List ℕ → Bool
+is_listed [] word = false
+is_listed (entry ∷ more) word = str_eq_ignore_ascii_case word entry.0 || is_listed more word
+
+abbrev pub is_reserved : List ℕ → Bool
+is_reserved word = is_listed reserved word
 
 -- a word that is in neither list is a name
 unfoldable pub word_kind : List ℕ → Kind

@@ -5,7 +5,7 @@ ghost use Rattle.sql_lex.specs.Bytes as spec;
 use sql_tree::Kind;
 
 /// Classes of bytes. Letters and digits are those of ASCII.
-#[derive(Clone, Copy, Debug)]
+#[derive(Clone, Copy)]
 pub enum Class {
     /// White space.
     Blank,
@@ -27,7 +27,7 @@ pub enum Class {
 }
 
 /// The front of some bytes: what it is, and how many bytes it has.
-#[derive(Clone, Copy, Debug)]
+#[derive(Clone, Copy)]
 pub struct Piece {
     pub kind: Kind,
     pub len: usize,

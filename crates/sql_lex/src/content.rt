@@ -5,21 +5,11 @@ ghost use Rattle.sql_lex.specs.Content as spec;
 use crate::bytes::{Class, are_in, begins_bytes, run};
 use crate::numbers::{MOST_DIGITS, fraction_len, number_len, significant, unscaled};
 use crate::quotes::{closing, hex_digits, inside};
+use crate::tables::is_table_name;
 use dm_types::{Bytes, Text};
 use hex::FromHexError;
+use sql_tree::Number;
 use std::alloc::{AllocError, Global};
-
-/// A number as it is written.
-#[derive(Clone, Copy, Debug)]
-pub struct Number {
-    /// The number without its point, below 10^38.
-    pub unscaled: u128,
-    /// How many digits it has: those behind the point, and those before it without leading zeros;
-    /// at least 1.
-    pub precision: usize,
-    /// How many digits stand behind the point: 0 for a whole number.
-    pub scale: usize,
-}
 
 // Whether the bytes are one text in quotes.
 fn is_quoted(quote: u8, token: &[u8]) -> bool
@@ -75,6 +65,17 @@ pub fn name_of(alloc: Global, token: &[u8]) -> Result<Option<Text>, AllocError>
             Ok(None)
         }
     } else if !token.is_empty() && are_in(Class::Word, token) {
+        Ok(as_text(Bytes::from_slice(alloc, token)?))
+    } else {
+        Ok(None)
+    }
+}
+
+/// The table's name that a token is: all of its bytes. `None` where the bytes are none.
+pub fn table_of(alloc: Global, token: &[u8]) -> Result<Option<Text>, AllocError>
+    ensures { IfOk result (λ name. name ≡ spec.table_of token.now) }
+{
+    if is_table_name(token) {
         Ok(as_text(Bytes::from_slice(alloc, token)?))
     } else {
         Ok(None)

@@ -1,9 +1,11 @@
 // What tokens are to their bytes.
-ghost use Rattle.std.specs.Prelude.{◌≡◌, ℕ, List, length, All};
+ghost use Rattle.std.specs.Prelude.{◌≡◌, ℕ, List, length, All, not};
 ghost use Rattle.sql_lex.specs.Content.{AreMeant, SpellsName, SpellsText, name_of, text_of};
 ghost use Rattle.sql_lex.specs.Signs.{IsLongest, sign, signs};
 ghost use Rattle.sql_lex.specs.Stand.{StandIn, AreParts};
 ghost use Rattle.sql_lex.specs.Tokens.{tokens};
+ghost use Rattle.sql_lex.specs.Words.{is_reserved, word_kind};
+ghost use Rattle.sql_tree.specs.Kinds.{names};
 ghost use Rattle.sql_tree.specs.declared.token.Token.{Token};
 
 /// A law: the tokens stand in the bytes one after the other, each as the bytes there and the tokens
@@ -22,6 +24,11 @@ pub fn spans_ascend()
 /// as its kind says; the number of a token of the kind `Whole` is below 2^63.
 pub fn tokens_mean()
     ensures { (bytes : List ℕ) → AreMeant bytes (tokens bytes) }
+{}
+
+/// A law: a reserved word, in either case, is no name, and every other word is one.
+pub fn reserved_words_are_no_names()
+    ensures { (word : List ℕ) → names (word_kind word) ≡ not (is_reserved word) }
 {}
 
 /// A law: the sign that is read is the longest that stands there.

@@ -8,53 +8,87 @@ use crate::quotes::{bytes, quoted};
 use crate::signs::sign;
 use crate::tables::{table, table_len};
 use crate::words::word;
-use dm_types::is_text;
+use dm_types::{Items, is_text};
 use sql_tree::{Kind, Span, Token};
-use sqlite_items::Items;
 use std::alloc::{AllocError, Global};
 
 /// What stands before a token, as far as it says how the token is cut.
-#[derive(Clone, Copy, Debug)]
+#[derive(Clone, Copy)]
 pub enum Before {
+    /// A statement begins.
+    Start,
     Other,
     Show,
     Verify,
     Then,
     /// A table's name is due.
     Table,
+    /// A SELECT goes on.
+    Select,
+    /// A table's name is due in a SELECT.
+    SelectTable,
 }
 
 // Whether a table's name follows a token of this kind.
 fn wants_table(before: Before, kind: Kind) -> bool
     ensures { result ≡ spec.wants_table before kind }
 {
-    let names_table = matches!(
-        kind,
-        Kind::From | Kind::Into | Kind::TableWord | Kind::Using
-    );
+    let names_table = matches!(kind, Kind::From | Kind::Into | Kind::TableWord);
+    let uses_table = matches!(kind, Kind::Using);
     let is_update = matches!(kind, Kind::Update);
     match before {
-        Before::Show => names_table
-            || is_update
-            || matches!(kind, Kind::Files | Kind::Identities | Kind::Rows),
-        Before::Verify => names_table || is_update || matches!(kind, Kind::Feed),
-        Before::Then => names_table,
-        Before::Other | Before::Table => names_table || is_update,
+        Before::Start => {
+            names_table || uses_table || is_update || matches!(kind, Kind::Optimize)
+        }
+        Before::Other | Before::Table => names_table || uses_table || is_update,
+        Before::Show => {
+            names_table
+                || uses_table
+                || is_update
+                || matches!(kind, Kind::Files | Kind::Identities | Kind::Rows)
+        }
+        Before::Verify => names_table || uses_table || is_update || matches!(kind, Kind::Feed),
+        Before::Then => names_table || uses_table,
+        Before::Select | Before::SelectTable => names_table,
+    }
+}
+
+// Whether the token behind this state stands in a SELECT.
+fn is_in_select(before: Before) -> bool
+    ensures { result ≡ spec.is_in_select before }
+{
+    matches!(before, Before::Select | Before::SelectTable)
+}
+
+fn stands_before(selects: bool, kind: Kind) -> Before
+    ensures { result ≡ spec.stands_before selects kind }
+{
+    match kind {
+        Kind::Semicolon => Before::Start,
+        Kind::Show => Before::Show,
+        Kind::Verify => Before::Verify,
+        Kind::Then if !selects => Before::Then,
+        Kind::Select => Before::Select,
+        _ if selects => Before::Select,
+        _ => Before::Other,
     }
 }
 
 fn after(before: Before, kind: Kind) -> Before
     ensures { result ≡ spec.after before kind }
 {
-    if wants_table(before, kind) {
-        return Before::Table;
+    let selects = is_in_select(before);
+    match (wants_table(before, kind), selects) {
+        (true, false) => Before::Table,
+        (true, true) => Before::SelectTable,
+        (false, _) => stands_before(selects, kind),
     }
-    match kind {
-        Kind::Show => Before::Show,
-        Kind::Verify => Before::Verify,
-        Kind::Then => Before::Then,
-        _ => Before::Other,
-    }
+}
+
+fn is_table_due(before: Before) -> bool
+    ensures { result ≡ spec.is_table_due before }
+{
+    matches!(before, Before::Table | Before::SelectTable)
 }
 
 // The token at the front, by its first byte.
@@ -90,7 +124,7 @@ fn token(before: Before, script: &[u8]) -> Piece
             len: run(Class::Line, script),
         };
     }
-    if matches!(before, Before::Table) && table_len(script) > 0 {
+    if is_table_due(before) && table_len(script) > 0 {
         table(script)
     } else {
         common(script)
@@ -130,7 +164,7 @@ pub fn read_tokens_of(alloc: Global, bytes: &[u8]) -> Result<Items<Token>, Alloc
     ensures { IfOk result (λ tokens. tokens ≡ spec.tokens bytes.now) }
 {
     let mut tokens = Items::new(alloc);
-    let mut before = Before::Other;
+    let mut before = Before::Start;
     let mut at = 0;
     'pieces: while at < bytes.len() {
         let rest = &bytes[at..];

@@ -11,11 +11,9 @@ mod signs;
 mod tables;
 mod words;
 
-pub use content::{Number, bytes_of, name_of, number_of, text_of};
+pub use content::{bytes_of, name_of, number_of, table_of, text_of};
 pub use laws::{
-    names_spelled, signs_are_longest, spans_ascend, texts_spelled, tokens_mean, tokens_stand,
+    names_spelled, reserved_words_are_no_names, signs_are_longest, spans_ascend, texts_spelled,
+    tokens_mean, tokens_stand,
 };
 pub use lexer::read_tokens_of;
-
-#[cfg(test)]
-mod tests;

@@ -8,7 +8,7 @@ use crate::bytes::{Class, Piece, run};
 use sql_tree::Kind;
 
 /// The words that have a place in the grammar, the reserved ones first.
-const WORDS: [(&[u8], Kind); 75] = [
+const WORDS: [(&[u8], Kind); 76] = [
     (b"ALTER", Kind::Alter),
     (b"AND", Kind::And),
     (b"AS", Kind::As),
@@ -84,6 +84,7 @@ const WORDS: [(&[u8], Kind); 75] = [
     (b"DROP", Kind::Drop),
     (b"OPTIMIZE", Kind::Optimize),
     (b"RESTORE", Kind::Restore),
+    (b"STATS", Kind::Stats),
 ];
 
 // Words match in either case.

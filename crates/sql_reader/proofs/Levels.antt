@@ -1,5 +1,5 @@
 -- The levels of operators.
-use Rattle.std.proofs.Common.{ℕ, Bool}
+use Rattle.std.proofs.Common.{ℕ, Bool, List}
 use Rattle.token_lang.specs.Lang.{Lang}
 use Rattle.token_lang.specs.Meets.{Leads}
 use Rattle.sql_tree.specs.declared.token.Token.{Token}
@@ -19,12 +19,12 @@ rank Concat = 14
 rank Sum = 12
 rank Product = 10
 
-abbrev pub operand_of : ℕ → Level → Lang Token Expr
-operand_of depth Or = g.conjunction depth (g.inside depth)
-operand_of depth And = g.negation depth (g.inside depth)
-operand_of depth Concat = g.sum depth (g.inside depth)
-operand_of depth Sum = g.prod depth (g.inside depth)
-operand_of depth Product = g.sign depth (g.inside depth)
+abbrev pub operand_of : List ℕ → ℕ → Level → Lang Token Expr
+operand_of script depth Or = g.conjunction script depth (g.inside script depth)
+operand_of script depth And = g.negation script depth (g.inside script depth)
+operand_of script depth Concat = g.sum script depth (g.inside script depth)
+operand_of script depth Sum = g.prod script depth (g.inside script depth)
+operand_of script depth Product = g.sign script depth (g.inside script depth)
 
 abbrev pub first_operand : Level → Token → Bool
 first_operand Or = first_expr
@@ -40,9 +40,9 @@ after_operand Concat = after_sum
 after_operand Sum = after_prod
 after_operand Product = first_dated_tail
 
-pub operand_leads : (depth : ℕ) (level : Level) → Leads (operand_of depth level) (run_operand depth (run_inside depth) level) (first_operand level) (after_operand level)
-operand_leads depth Or = conjunction_leads depth (inside_leads depth)
-operand_leads depth And = negation_leads depth (inside_leads depth)
-operand_leads depth Concat = sum_leads depth (inside_leads depth)
-operand_leads depth Sum = prod_leads depth (inside_leads depth)
-operand_leads depth Product = sign_leads depth (inside_leads depth)
+pub operand_leads : (script : List ℕ) (depth : ℕ) (level : Level) → Leads (operand_of script depth level) (run_operand script depth (run_inside script depth) level) (first_operand level) (after_operand level)
+operand_leads script depth Or = conjunction_leads script depth (inside_leads script depth)
+operand_leads script depth And = negation_leads script depth (inside_leads script depth)
+operand_leads script depth Concat = sum_leads script depth (inside_leads script depth)
+operand_leads script depth Sum = prod_leads script depth (inside_leads script depth)
+operand_leads script depth Product = sign_leads script depth (inside_leads script depth)

@@ -1,3 +1,3 @@
 pub mod Levels
 pub mod Cut
-mod Naming
+mod Derived

@@ -13,7 +13,8 @@ IsRead (Ok found) a = found ≡ a
 IsRead (Err Memory) a = Unit {0}
 IsRead (Err (BadScript at)) a = ⊥
 
--- Where the first token begins such that no sentence begins with the tokens up to it, or the end: what stands before it begins a
+-- Where the first token begins such that no sentence begins with the tokens up to it, or the end: what stands before
+-- it begins a
 -- sentence, and nothing longer does.
 abbrev pub IsPlace : {A : Type 0} → Lang Token A → ℕ → List Token → ℕ → Type 0
 IsPlace L end ts at = (rest : List Token) × IsLongest L ts rest × (at ≡ place_of end rest)

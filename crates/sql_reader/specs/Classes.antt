@@ -1,5 +1,5 @@
 -- What the classes of tokens and the levels of operators are in the grammar.
-use Rattle.std.specs.Prelude.{ℕ, Bool}
+use Rattle.std.specs.Prelude.{ℕ, Bool, List}
 use Rattle.token_lang.specs.Run.{Reader}
 use Rattle.sql_tree.specs.declared.token.Kind.{Kind}
 use Rattle.sql_tree.specs.declared.token.Kind.TheVariants as k
@@ -42,9 +42,9 @@ operators v.Sum = kinds.any kinds.signs
 operators v.Product = kinds.any kinds.multiplies
 
 -- what stands between the operators of the level
-abbrev pub run_operand : ℕ → Reader Token Expr → Level → Reader Token Expr
-run_operand depth f v.Or = reading.run_conjunction depth f
-run_operand depth f v.And = reading.run_negation depth f
-run_operand depth f v.Concat = reading.run_sum depth f
-run_operand depth f v.Sum = reading.run_prod depth f
-run_operand depth f v.Product = reading.run_sign depth f
+abbrev pub run_operand : List ℕ → ℕ → Reader Token Expr → Level → Reader Token Expr
+run_operand script depth f v.Or = reading.run_conjunction script depth f
+run_operand script depth f v.And = reading.run_negation script depth f
+run_operand script depth f v.Concat = reading.run_sum script depth f
+run_operand script depth f v.Sum = reading.run_prod script depth f
+run_operand script depth f v.Product = reading.run_sign script depth f

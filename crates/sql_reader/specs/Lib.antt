@@ -1,4 +1,3 @@
 pub mod Gives
 pub mod Classes
 pub mod Answers
-pub mod Tables

@@ -2,7 +2,12 @@
 ghost use Rattle.std.specs.Prelude.{◌≡◌, IfOk};
 ghost use Rattle.sql_grammar.specs.Tree as tree;
 
-use sql_tree::{Expr, Exprs, Kind, Literal, Operator, Prefix, Span, Token, Truth, TypeName};
+use crate::source::Source;
+use dm_types::{DataType, MAX_PRECISION};
+use sql_tree::{
+    Branches, Expr, Exprs, Kind, Literal, Operator, Prefix, Span, Token, Truth, WrittenKind,
+    WrittenType,
+};
 use sqlite_items::{Boxed, Items};
 use std::alloc::{AllocError, Global};
 
@@ -16,46 +21,28 @@ pub(crate) fn to(first: Span, last: Span) -> Span
     }
 }
 
-// Where the whole expression stands.
-pub(crate) fn span_of(expr: &Expr) -> Span
-    ensures { result ≡ tree.span_of expr.now }
+fn literal_of(source: &Source<'_>, token: Token) -> Result<Literal, AllocError>
+    ensures { IfOk result (λ l. l ≡ tree.literal_of source.now token.kind token.span) }
 {
-    match expr {
-        Expr::Literal(span, _)
-        | Expr::Column(span, _, _)
-        | Expr::Group(span, _)
-        | Expr::Unary(span, _, _, _)
-        | Expr::Binary(span, _, _, _, _)
-        | Expr::Is(span, _, _, _, _)
-        | Expr::Between(span, _, _, _, _, _)
-        | Expr::In(span, _, _, _, _)
-        | Expr::Case(span, _, _, _)
-        | Expr::Cast(span, _, _, _)
-        | Expr::Call(span, _, _) => *span,
+    match token.kind {
+        Kind::Null => Ok(Literal::Null),
+        Kind::True => Ok(Literal::True),
+        Kind::False => Ok(Literal::False),
+        Kind::Decimal => Ok(Literal::Decimal(source.number_at(token.span))),
+        Kind::Text => Ok(Literal::Text(source.text_at(token.span)?)),
+        Kind::TableText => Ok(Literal::Text(source.text_at(token.span)?)),
+        Kind::Bytes => Ok(Literal::Bytes(source.bytes_at(token.span)?)),
+        _ => Ok(Literal::Whole(source.number_at(token.span))),
     }
 }
 
-fn literal_of(kind: Kind) -> Literal
-    ensures { result ≡ tree.literal_of kind }
+fn date_of(source: &Source<'_>, kind: Kind, place: Span) -> Result<Literal, AllocError>
+    ensures { IfOk result (λ l. l ≡ tree.date_of source.now kind place) }
 {
+    let text = source.text_at(place)?;
     match kind {
-        Kind::Null => Literal::Null,
-        Kind::True => Literal::True,
-        Kind::False => Literal::False,
-        Kind::Decimal => Literal::Decimal,
-        Kind::Text => Literal::Text,
-        Kind::TableText => Literal::Text,
-        Kind::Bytes => Literal::Bytes,
-        _ => Literal::Whole,
-    }
-}
-
-fn date_of(kind: Kind, text: Span) -> Literal
-    ensures { result ≡ tree.date_of kind text }
-{
-    match kind {
-        Kind::Date => Literal::Date(text),
-        _ => Literal::Timestamp(text),
+        Kind::Date => Ok(Literal::Date { place, text }),
+        _ => Ok(Literal::Timestamp { place, text }),
     }
 }
 
@@ -91,7 +78,7 @@ fn operator_of(kind: Kind) -> Operator
     }
 }
 
-pub(crate) fn truth_of(kind: Kind) -> Truth
+fn truth_of(kind: Kind) -> Truth
     ensures { result ≡ tree.truth_of kind }
 {
     match kind {
@@ -101,42 +88,227 @@ pub(crate) fn truth_of(kind: Kind) -> Truth
     }
 }
 
-pub(crate) fn plain_type_of(kind: Kind) -> TypeName
+fn plain_type_of(kind: Kind) -> WrittenKind
     ensures { result ≡ tree.plain_type_of kind }
 {
-    match kind {
-        Kind::Boolean => TypeName::Boolean,
-        Kind::TinyInt => TypeName::TinyInt,
-        Kind::SmallInt => TypeName::SmallInt,
-        Kind::Int => TypeName::Int,
-        Kind::BigInt => TypeName::BigInt,
-        Kind::String => TypeName::String,
-        Kind::Binary => TypeName::Binary,
-        Kind::Date => TypeName::Date,
-        _ => TypeName::Timestamp,
+    WrittenKind::Type(match kind {
+        Kind::Boolean => DataType::Boolean,
+        Kind::TinyInt => DataType::Byte,
+        Kind::SmallInt => DataType::Short,
+        Kind::Int => DataType::Integer,
+        Kind::BigInt => DataType::Long,
+        Kind::String => DataType::Str,
+        Kind::Binary => DataType::Binary,
+        Kind::Date => DataType::Date,
+        _ => DataType::Timestamp,
+    })
+}
+
+// A type without brackets.
+pub(crate) fn plain_type(word: Token) -> WrittenType
+    ensures { result ≡ tree.plain_type word }
+{
+    WrittenType {
+        span: word.span,
+        kind: plain_type_of(word.kind),
     }
 }
 
-pub(crate) fn literal(token: Token) -> Expr
-    ensures { result ≡ tree.literal token }
+// A DECIMAL with its precision and its scale.
+pub(crate) fn decimal_of(precision: u128, scale: u128) -> WrittenKind
+    ensures { result ≡ tree.decimal_of precision scale }
 {
-    Expr::Literal(token.span, literal_of(token.kind))
+    if 1 <= precision && precision <= u128::from(MAX_PRECISION) && scale <= precision {
+        WrittenKind::Type(DataType::Decimal {
+            precision: precision as u8,
+            scale: scale as u8,
+        })
+    } else {
+        WrittenKind::BadDecimal { precision, scale }
+    }
 }
 
-pub(crate) fn dated(text: Token, word: Token) -> Expr
-    ensures { result ≡ tree.dated text word }
+pub(crate) fn literal(source: &Source<'_>, token: Token) -> Result<Expr, AllocError>
+    ensures { IfOk result (λ e. e ≡ tree.literal source.now token) }
 {
-    Expr::Literal(to(word.span, text.span), date_of(word.kind, text.span))
+    let value = literal_of(source, token)?;
+    Ok(Expr::Literal {
+        span: token.span,
+        value,
+    })
 }
 
-pub(crate) fn column(name: Token) -> Expr
-    ensures { result ≡ tree.column name }
+pub(crate) fn dated(source: &Source<'_>, text: Token, word: Token) -> Result<Expr, AllocError>
+    ensures { IfOk result (λ e. e ≡ tree.dated source.now text word) }
 {
-    Expr::Column(name.span, None, name.span)
+    let value = date_of(source, word.kind, text.span)?;
+    Ok(Expr::Literal {
+        span: to(word.span, text.span),
+        value,
+    })
+}
+
+pub(crate) fn column(source: &Source<'_>, name: Token) -> Result<Expr, AllocError>
+    ensures { IfOk result (λ e. e ≡ tree.column source.now name) }
+{
+    let found = source.name_at(name.span)?;
+    Ok(Expr::Column {
+        span: name.span,
+        qualifier: None,
+        name: found,
+    })
+}
+
+// A column with its qualifier.
+pub(crate) fn qualified(
+    source: &Source<'_>,
+    qualifier: Token,
+    name: Token,
+) -> Result<Expr, AllocError>
+    ensures { IfOk result (λ e. e ≡ tree.column_of source.now qualifier name) }
+{
+    let before = source.name_at(qualifier.span)?;
+    let found = source.name_at(name.span)?;
+    Ok(Expr::Column {
+        span: to(qualifier.span, name.span),
+        qualifier: Some(before),
+        name: found,
+    })
+}
+
+pub(crate) fn group(
+    source: &Source<'_>,
+    open: Token,
+    inner: Expr,
+    close: Token,
+) -> Result<Expr, AllocError>
+    ensures { IfOk result (λ e. e ≡ tree.grouped («open», (inner, close))) }
+{
+    Ok(Expr::Group {
+        span: to(open.span, close.span),
+        inner: Boxed::new(source.alloc(), inner)?,
+    })
+}
+
+pub(crate) fn call(
+    source: &Source<'_>,
+    name: Token,
+    items: Option<Exprs>,
+    close: Token,
+) -> Result<Expr, AllocError>
+    ensures { IfOk result (λ e. e ≡ tree.call_of source.now name items close) }
+{
+    let function = source.name_at(name.span)?;
+    Ok(Expr::Call {
+        span: to(name.span, close.span),
+        function,
+        arguments: all_of(source.alloc(), items),
+    })
+}
+
+pub(crate) fn case(
+    source: &Source<'_>,
+    word: Token,
+    branches: Branches,
+    otherwise: Option<Expr>,
+    end: Token,
+) -> Result<Expr, AllocError>
+    ensures { IfOk result (λ e. e ≡ tree.cased (word, (branches, (otherwise, end)))) }
+{
+    let otherwise = boxed(source.alloc(), otherwise)?;
+    Ok(Expr::Case {
+        span: to(word.span, end.span),
+        place: word.span,
+        branches,
+        otherwise,
+    })
+}
+
+pub(crate) fn cast(
+    source: &Source<'_>,
+    word: Token,
+    operand: Expr,
+    wanted: WrittenType,
+    close: Token,
+) -> Result<Expr, AllocError>
+    ensures { IfOk result (λ e. e ≡ tree.cast_of word operand wanted close) }
+{
+    let operand = Boxed::new(source.alloc(), operand)?;
+    Ok(Expr::Cast {
+        span: to(word.span, close.span),
+        place: word.span,
+        operand,
+        wanted,
+    })
+}
+
+pub(crate) fn question(
+    source: &Source<'_>,
+    word: Token,
+    not: Option<Token>,
+    truth: Token,
+    operand: Expr,
+) -> Result<Expr, AllocError>
+    ensures { IfOk result (λ e. e ≡ tree.asked (word, (not, truth)) operand) }
+{
+    let whole = to(operand.span(), truth.span);
+    let operand = Boxed::new(source.alloc(), operand)?;
+    Ok(Expr::Is {
+        span: whole,
+        truth: truth_of(truth.kind),
+        not: not.is_some(),
+        place: to(word.span, truth.span),
+        operand,
+    })
+}
+
+pub(crate) fn between(
+    source: &Source<'_>,
+    not: Option<Token>,
+    word: Token,
+    operand: Expr,
+    low: Expr,
+    high: Expr,
+) -> Result<Expr, AllocError>
+    ensures { IfOk result (λ e. e ≡ tree.between_of not word operand low high) }
+{
+    let whole = to(operand.span(), high.span());
+    let operand = Boxed::new(source.alloc(), operand)?;
+    let low = Boxed::new(source.alloc(), low)?;
+    let high = Boxed::new(source.alloc(), high)?;
+    Ok(Expr::Between {
+        span: whole,
+        not: not.is_some(),
+        place: with_not(not, word),
+        operand,
+        low,
+        high,
+    })
+}
+
+pub(crate) fn among(
+    source: &Source<'_>,
+    not: Option<Token>,
+    word: Token,
+    operand: Expr,
+    items: Exprs,
+    close: Token,
+) -> Result<Expr, AllocError>
+    ensures { IfOk result (λ e. e ≡ tree.in_of not word operand items close) }
+{
+    let whole = to(operand.span(), close.span);
+    let operand = Boxed::new(source.alloc(), operand)?;
+    Ok(Expr::In {
+        span: whole,
+        not: not.is_some(),
+        place: with_not(not, word),
+        operand,
+        items,
+    })
 }
 
 // The arguments, of which there may be none.
-pub(crate) fn all_of(alloc: Global, items: Option<Exprs>) -> Exprs
+fn all_of(alloc: Global, items: Option<Exprs>) -> Exprs
     ensures { result ≡ tree.all_of items }
 {
     match items {
@@ -145,7 +317,7 @@ pub(crate) fn all_of(alloc: Global, items: Option<Exprs>) -> Exprs
     }
 }
 
-pub(crate) fn boxed(alloc: Global, expr: Option<Expr>) -> Result<Option<Boxed<Expr>>, AllocError>
+fn boxed(alloc: Global, expr: Option<Expr>) -> Result<Option<Boxed<Expr>>, AllocError>
     ensures { IfOk result (λ o. o ≡ expr) }
 {
     match expr {
@@ -155,7 +327,7 @@ pub(crate) fn boxed(alloc: Global, expr: Option<Expr>) -> Result<Option<Boxed<Ex
 }
 
 // The operator, with the NOT before it.
-pub(crate) fn with_not(not: Option<Token>, word: Token) -> Span
+fn with_not(not: Option<Token>, word: Token) -> Span
     ensures { result ≡ tree.with_not not word }
 {
     match not {
@@ -173,20 +345,31 @@ pub(crate) fn join(
 ) -> Result<Expr, AllocError>
     ensures { IfOk result (λ e. e ≡ tree.joined left (operator, right)) }
 {
-    let whole = to(span_of(&left), span_of(&right));
+    let whole = to(left.span(), right.span());
     let kind = operator_of(operator.kind);
     let left = Boxed::new(alloc, left)?;
     let right = Boxed::new(alloc, right)?;
-    Ok(Expr::Binary(whole, kind, operator.span, left, right))
+    Ok(Expr::Binary {
+        span: whole,
+        operator: kind,
+        place: operator.span,
+        left,
+        right,
+    })
 }
 
 // A sign or NOT before an operand.
 fn prefix(alloc: Global, token: Token, expr: Expr) -> Result<Expr, AllocError>
     ensures { IfOk result (λ e. e ≡ tree.prefixed token expr) }
 {
-    let whole = to(token.span, span_of(&expr));
+    let whole = to(token.span, expr.span());
     let kind = prefix_of(token.kind);
-    Ok(Expr::Unary(whole, kind, token.span, Boxed::new(alloc, expr)?))
+    Ok(Expr::Unary {
+        span: whole,
+        prefix: kind,
+        place: token.span,
+        operand: Boxed::new(alloc, expr)?,
+    })
 }
 
 // All of them, the last one first.

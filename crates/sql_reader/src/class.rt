@@ -5,7 +5,7 @@ ghost use Rattle.sql_tree.specs.Kinds as kinds;
 use sql_tree::Kind;
 
 // A class of tokens.
-#[derive(Clone, Copy, Debug, PartialEq, Eq)]
+#[derive(Clone, Copy)]
 pub(crate) enum Class {
     // Any name.
     Name,
@@ -26,7 +26,7 @@ pub(crate) enum Class {
 }
 
 // The levels of operators that stand in chains, the loosest first.
-#[derive(Clone, Copy, Debug, PartialEq, Eq)]
+#[derive(Clone, Copy)]
 pub(crate) enum Level {
     Or,
     And,
@@ -49,6 +49,7 @@ fn names_plainly(kind: Kind) -> bool
             | Kind::Of
             | Kind::Target
             | Kind::Source
+            | Kind::Stats
     )
 }
 

@@ -4,7 +4,7 @@ use std::alloc::AllocError;
 use thiserror::Error;
 
 // Why a production wasn't read.
-#[derive(Clone, Copy, Debug, PartialEq, Eq)]
+#[derive(Drop)]
 pub(crate) enum Fault {
     Memory,
     // The next token goes on with nothing, or there is none.
@@ -23,7 +23,7 @@ impl From<AllocError> for Fault {
 }
 
 /// Why there is no script, or no expression.
-#[derive(Clone, Copy, Debug, PartialEq, Eq, Error)]
+#[derive(Debug, Drop, Error)]
 pub enum ScriptFault {
     /// The bytes are in no way one. `at` is the byte at which the first token begins such that none
     /// begins with the tokens up to it, or the number of bytes.

@@ -7,13 +7,13 @@ mod class;
 mod expr;
 mod fault;
 mod read;
+mod source;
 mod statement;
-mod table;
 mod tokens;
 
 pub use fault::ScriptFault;
 pub use read::{read_expr, read_script};
-pub use table::table_name;
-
-#[cfg(test)]
-mod tests;
+pub use sql_tree::{
+    Branches, Expr, Exprs, Literal, Name, Number, Operator, Prefix, Span, Stmt, Stmts, TableName,
+    Truth, WrittenKind, WrittenType,
+};

@@ -3,6 +3,7 @@ ghost use Rattle.std.specs.Prelude.{◌≡◌, ◌≤◌, [], length, drop, IsTr
 ghost use Rattle.token_lang.specs.Run.{sees, run_one};
 ghost use Rattle.sql_tree.specs.Kinds.{is};
 ghost use Rattle.sql_grammar.specs.Reading as reading;
+ghost use Rattle.sql_grammar.specs.Statements.{first_statement};
 ghost use Rattle.sql_reader.specs.Classes.{is_in, operators};
 ghost use Rattle.sql_reader.specs.Gives.{Gives, place_of};
 
@@ -173,7 +174,7 @@ impl<'a> Tokens<'a> {
 
     // Whether a statement begins here.
     pub(crate) fn sees_statement(&self) -> bool
-        ensures { result ≡ sees reading.first_statement self.now }
+        ensures { result ≡ sees first_statement self.now }
     {
         self.sees(Kind::Show) || self.sees(Kind::Delete)
     }

@@ -2,13 +2,13 @@
 use Rattle.std.proofs.Common.{◌≡◌, ℕ, zero, suc, Bool, true, false, List, [], ◌∷◌, refl}
 use Rattle.std.specs.Prelude.{◌&&◌, ◌||◌, not}
 use Rattle.sql_tree.specs.declared.token.Kind.{Kind}
-use Rattle.sql_tree.specs.declared.token.Kind.TheVariants.{Bad, Name, Whole, LargeWhole, Decimal, Text, TableText, Bytes, Table, TableChanges, Semicolon, Open, Close, Comma, Dot, Equal, NotEqual, Less, LessOrEqual, Greater, GreaterOrEqual, SameAs, Concat, Plus, Minus, Star, Percent, Alter, And, As, Between, By, Case, Cast, Check, Constraint, Create, Delete, Div, Else, End, False, From, In, Insert, Into, Is, Matched, Merge, Not, Null, On, Or, Select, Set, Show, TableWord, Then, To, True, Update, Using, Values, Verify, When, Where, Files, Identities, Rows, Feed, Version, Of, Partitioned, TblProperties, Generated, Always, Default, Identity, Start, With, Increment, Target, Source, Boolean, TinyInt, SmallInt, Int, BigInt, String, Binary, Date, Timestamp, DecimalWord, Enable, Row, Tracking, Add, Column, Rename, Drop, Optimize, Restore}
+use Rattle.sql_tree.specs.declared.token.Kind.TheVariants.{Bad, Name, Whole, LargeWhole, Decimal, Text, TableText, Bytes, Table, TableChanges, Semicolon, Open, Close, Comma, Dot, Equal, NotEqual, Less, LessOrEqual, Greater, GreaterOrEqual, SameAs, Concat, Plus, Minus, Star, Percent, Alter, And, As, Between, By, Case, Cast, Check, Constraint, Create, Delete, Div, Else, End, False, From, In, Insert, Into, Is, Matched, Merge, Not, Null, On, Or, Select, Set, Show, TableWord, Then, To, True, Update, Using, Values, Verify, When, Where, Files, Identities, Rows, Feed, Version, Of, Partitioned, TblProperties, Generated, Always, Default, Identity, Start, With, Increment, Target, Source, Boolean, TinyInt, SmallInt, Int, BigInt, String, Binary, Date, Timestamp, DecimalWord, Enable, Row, Tracking, Add, Column, Rename, Drop, Optimize, Restore, Stats}
 use Rattle.sql_tree.specs.declared.token.Token.{Token}
 use Rattle.sql_tree.specs.declared.token.Span.{Span}
 
 -- every kind
 abbrev pub kinds : List Kind
-kinds = Bad ∷ Name ∷ Whole ∷ LargeWhole ∷ Decimal ∷ Text ∷ TableText ∷ Bytes ∷ Table ∷ TableChanges ∷ Semicolon ∷ Open ∷ Close ∷ Comma ∷ Dot ∷ Equal ∷ NotEqual ∷ Less ∷ LessOrEqual ∷ Greater ∷ GreaterOrEqual ∷ SameAs ∷ Concat ∷ Plus ∷ Minus ∷ Star ∷ Percent ∷ Alter ∷ And ∷ As ∷ Between ∷ By ∷ Case ∷ Cast ∷ Check ∷ Constraint ∷ Create ∷ Delete ∷ Div ∷ Else ∷ End ∷ False ∷ From ∷ In ∷ Insert ∷ Into ∷ Is ∷ Matched ∷ Merge ∷ Not ∷ Null ∷ On ∷ Or ∷ Select ∷ Set ∷ Show ∷ TableWord ∷ Then ∷ To ∷ True ∷ Update ∷ Using ∷ Values ∷ Verify ∷ When ∷ Where ∷ Files ∷ Identities ∷ Rows ∷ Feed ∷ Version ∷ Of ∷ Partitioned ∷ TblProperties ∷ Generated ∷ Always ∷ Default ∷ Identity ∷ Start ∷ With ∷ Increment ∷ Target ∷ Source ∷ Boolean ∷ TinyInt ∷ SmallInt ∷ Int ∷ BigInt ∷ String ∷ Binary ∷ Date ∷ Timestamp ∷ DecimalWord ∷ Enable ∷ Row ∷ Tracking ∷ Add ∷ Column ∷ Rename ∷ Drop ∷ Optimize ∷ Restore ∷ []
+kinds = Bad ∷ Name ∷ Whole ∷ LargeWhole ∷ Decimal ∷ Text ∷ TableText ∷ Bytes ∷ Table ∷ TableChanges ∷ Semicolon ∷ Open ∷ Close ∷ Comma ∷ Dot ∷ Equal ∷ NotEqual ∷ Less ∷ LessOrEqual ∷ Greater ∷ GreaterOrEqual ∷ SameAs ∷ Concat ∷ Plus ∷ Minus ∷ Star ∷ Percent ∷ Alter ∷ And ∷ As ∷ Between ∷ By ∷ Case ∷ Cast ∷ Check ∷ Constraint ∷ Create ∷ Delete ∷ Div ∷ Else ∷ End ∷ False ∷ From ∷ In ∷ Insert ∷ Into ∷ Is ∷ Matched ∷ Merge ∷ Not ∷ Null ∷ On ∷ Or ∷ Select ∷ Set ∷ Show ∷ TableWord ∷ Then ∷ To ∷ True ∷ Update ∷ Using ∷ Values ∷ Verify ∷ When ∷ Where ∷ Files ∷ Identities ∷ Rows ∷ Feed ∷ Version ∷ Of ∷ Partitioned ∷ TblProperties ∷ Generated ∷ Always ∷ Default ∷ Identity ∷ Start ∷ With ∷ Increment ∷ Target ∷ Source ∷ Boolean ∷ TinyInt ∷ SmallInt ∷ Int ∷ BigInt ∷ String ∷ Binary ∷ Date ∷ Timestamp ∷ DecimalWord ∷ Enable ∷ Row ∷ Tracking ∷ Add ∷ Column ∷ Rename ∷ Drop ∷ Optimize ∷ Restore ∷ Stats ∷ []
 
 -- each of these kinds passes a test
 abbrev pub every : List Kind → (Kind → Bool) → Bool
@@ -34,7 +34,7 @@ reach zero (k ∷ ks) p b h = (both_true (p k) (every ks p) h).0
 reach (suc n) (k ∷ ks) p b h = reach n ks p b (past k ks p h)
 
 first_of_all : (p : Kind → Bool) → every kinds p ≡ true → p Bad ≡ true
-first_of_all p h = (both_true (p Bad) (every (Name ∷ Whole ∷ LargeWhole ∷ Decimal ∷ Text ∷ TableText ∷ Bytes ∷ Table ∷ TableChanges ∷ Semicolon ∷ Open ∷ Close ∷ Comma ∷ Dot ∷ Equal ∷ NotEqual ∷ Less ∷ LessOrEqual ∷ Greater ∷ GreaterOrEqual ∷ SameAs ∷ Concat ∷ Plus ∷ Minus ∷ Star ∷ Percent ∷ Alter ∷ And ∷ As ∷ Between ∷ By ∷ Case ∷ Cast ∷ Check ∷ Constraint ∷ Create ∷ Delete ∷ Div ∷ Else ∷ End ∷ False ∷ From ∷ In ∷ Insert ∷ Into ∷ Is ∷ Matched ∷ Merge ∷ Not ∷ Null ∷ On ∷ Or ∷ Select ∷ Set ∷ Show ∷ TableWord ∷ Then ∷ To ∷ True ∷ Update ∷ Using ∷ Values ∷ Verify ∷ When ∷ Where ∷ Files ∷ Identities ∷ Rows ∷ Feed ∷ Version ∷ Of ∷ Partitioned ∷ TblProperties ∷ Generated ∷ Always ∷ Default ∷ Identity ∷ Start ∷ With ∷ Increment ∷ Target ∷ Source ∷ Boolean ∷ TinyInt ∷ SmallInt ∷ Int ∷ BigInt ∷ String ∷ Binary ∷ Date ∷ Timestamp ∷ DecimalWord ∷ Enable ∷ Row ∷ Tracking ∷ Add ∷ Column ∷ Rename ∷ Drop ∷ Optimize ∷ Restore ∷ []) p) h).0
+first_of_all p h = (both_true (p Bad) _ h).0
 
 -- a test that each kind of the list passes is passed by every kind
 pub at_each : (p : Kind → Bool) → every kinds p ≡ true → (k : Kind) → p k ≡ true
@@ -140,6 +140,7 @@ at_each p h Rename = reach 98 kinds p (first_of_all p h) h
 at_each p h Drop = reach 99 kinds p (first_of_all p h) h
 at_each p h Optimize = reach 100 kinds p (first_of_all p h) h
 at_each p h Restore = reach 101 kinds p (first_of_all p h) h
+at_each p h Stats = reach 102 kinds p (first_of_all p h) h
 
 implied : (p q : Bool) → (not (p && q)) ≡ true → p ≡ true → q ≡ false
 implied true true h e = absurd (cc)

@@ -1,7 +1,7 @@
 -- Classes of tokens.
 use Rattle.std.specs.Prelude.{Bool, true, false, ◌||◌}
 use Rattle.sql_tree.specs.declared.token.Kind.{Kind}
-use Rattle.sql_tree.specs.declared.token.Kind.TheVariants.{Name, Whole, LargeWhole, Decimal, Text, TableText, Bytes, Table, TableChanges, Equal, NotEqual, Less, LessOrEqual, Greater, GreaterOrEqual, SameAs, Plus, Minus, Star, Percent, Div, Null, True, False, Files, Identities, Rows, Feed, Version, Of, Partitioned, TblProperties, Generated, Always, Default, Identity, Start, With, Increment, Target, Source, Boolean, TinyInt, SmallInt, Int, BigInt, String, Binary, Date, Timestamp, DecimalWord, Enable, Row, Tracking, Add, Column, Rename, Drop, Optimize, Restore}
+use Rattle.sql_tree.specs.declared.token.Kind.TheVariants.{Name, Whole, LargeWhole, Decimal, Text, TableText, Bytes, Table, TableChanges, Equal, NotEqual, Less, LessOrEqual, Greater, GreaterOrEqual, SameAs, Plus, Minus, Star, Percent, Div, Null, True, False, Files, Identities, Rows, Feed, Version, Of, Partitioned, TblProperties, Generated, Always, Default, Identity, Start, With, Increment, Target, Source, Boolean, TinyInt, SmallInt, Int, BigInt, String, Binary, Date, Timestamp, DecimalWord, Enable, Row, Tracking, Add, Column, Rename, Drop, Optimize, Restore, Stats}
 use Rattle.sql_tree.specs.declared.token.Token.{Token}
 use Rattle.sql_tree.specs.contracts.token.Kind.{the_type}
 use denote.Enum.Bare.{sameb}
@@ -23,6 +23,7 @@ names_plainly Version = true
 names_plainly Of = true
 names_plainly Target = true
 names_plainly Source = true
+names_plainly Stats = true
 names_plainly _ = false
 
 -- words of CREATE TABLE

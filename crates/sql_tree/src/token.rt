@@ -1,7 +1,7 @@
 // Tokens with their places.
 
 /// A part of a script: the bytes from `start` up to `end`, which isn't in it.
-#[derive(Clone, Copy, Debug, PartialEq, Eq)]
+#[derive(Clone, Copy)]
 pub struct Span {
     /// Where the part begins, counted in bytes from the script's first.
     pub start: usize,
@@ -10,8 +10,8 @@ pub struct Span {
 }
 
 /// What a token is. A word has a kind of its own where the grammar of the whole language, with the
-/// statements that aren't built yet, has a place for it.
-#[derive(Clone, Copy, Debug, PartialEq, Eq)]
+/// statements that aren't built yet, has a place for it: a new statement adds no kind.
+#[derive(Clone, Copy, PartialEq, Eq)]
 pub enum Kind {
     /// A byte, a quoted text, a quoted name or a comment that is no token.
     Bad,
@@ -217,10 +217,12 @@ pub enum Kind {
     Optimize,
     /// RESTORE, which may also be a name.
     Restore,
+    /// STATS, which may also be a name.
+    Stats,
 }
 
 /// A token of a script.
-#[derive(Clone, Copy, Debug, PartialEq, Eq)]
+#[derive(Clone, Copy)]
 pub struct Token {
     /// What it is.
     pub kind: Kind,

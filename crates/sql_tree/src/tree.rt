@@ -1,6 +1,7 @@
-// Expressions and statements with their places.
+// Expressions and statements, with their places and what stands there.
 
 use crate::token::Span;
+use dm_types::{Bytes, DataType, Text};
 use sqlite_items::{Boxed, Items};
 
 /// Expressions, in order.
@@ -10,30 +11,60 @@ pub type Exprs = Items<Expr>;
 pub type Branches = Items<(Expr, Expr)>;
 
 /// The statements of a script, in order.
-pub type Statements = Items<Stmt>;
+pub type Stmts = dm_types::Items<Stmt>;
+
+/// The name of a column, a qualifier or a function.
+#[derive(Drop)]
+pub struct Name {
+    /// Where it stands, with its backquotes.
+    pub span: Span,
+    /// The word, or what stands in backquotes, of two backquotes one.
+    pub text: Text,
+}
+
+/// The name of a table.
+#[derive(Drop)]
+pub struct TableName {
+    /// Where it stands.
+    pub span: Span,
+    /// The name.
+    pub text: Text,
+}
+
+/// A number as it is written.
+#[derive(Clone, Copy)]
+pub struct Number {
+    /// The number without its point, below 10^38.
+    pub unscaled: u128,
+    /// How many digits it has: those behind the point, and those before it without leading zeros;
+    /// at least 1.
+    pub precision: usize,
+    /// How many digits stand behind the point: 0 for a whole number.
+    pub scale: usize,
+}
 
 /// What a literal is.
-#[derive(Clone, Copy, Debug, PartialEq, Eq)]
+#[derive(Drop)]
 pub enum Literal {
     Null,
     True,
     False,
     /// Digits.
-    Whole,
+    Whole(Number),
     /// Digits, a point and digits.
-    Decimal,
-    /// A text in single quotes.
-    Text,
-    /// `X'..'`.
-    Bytes,
-    /// DATE and a text, which stands here.
-    Date(Span),
-    /// TIMESTAMP and a text, which stands here.
-    Timestamp(Span),
+    Decimal(Number),
+    /// What stands in single quotes, of two quotes one.
+    Text(Text),
+    /// What `X'..'` spells.
+    Bytes(Bytes),
+    /// DATE and a text, which stands at this place.
+    Date { place: Span, text: Text },
+    /// TIMESTAMP and a text, which stands at this place.
+    Timestamp { place: Span, text: Text },
 }
 
 /// What stands before an operand.
-#[derive(Clone, Copy, Debug, PartialEq, Eq)]
+#[derive(Clone, Copy)]
 pub enum Prefix {
     Not,
     Minus,
@@ -41,7 +72,7 @@ pub enum Prefix {
 }
 
 /// What stands between two operands.
-#[derive(Clone, Copy, Debug, PartialEq, Eq)]
+#[derive(Clone, Copy)]
 pub enum Operator {
     Or,
     And,
@@ -64,72 +95,139 @@ pub enum Operator {
 }
 
 /// What IS asks for.
-#[derive(Clone, Copy, Debug, PartialEq, Eq)]
+#[derive(Clone, Copy)]
 pub enum Truth {
     Null,
     True,
     False,
 }
 
-/// The name of a type.
-#[derive(Clone, Copy, Debug, PartialEq, Eq)]
-pub enum TypeName {
-    Boolean,
-    TinyInt,
-    SmallInt,
-    Int,
-    BigInt,
-    String,
-    Binary,
-    Date,
-    Timestamp,
-    /// DECIMAL with the places of its precision and its scale, two whole numbers.
-    Decimal(Span, Span),
+/// What a written type names.
+#[derive(Clone, Copy)]
+pub enum WrittenKind {
+    /// A type.
+    Type(DataType),
+    /// A DECIMAL whose precision isn't from 1 to 38, or whose scale is above its precision.
+    BadDecimal { precision: u128, scale: u128 },
 }
 
 /// A type as it stands in a script.
-#[derive(Clone, Copy, Debug, PartialEq, Eq)]
+#[derive(Clone, Copy)]
 pub struct WrittenType {
     /// Where it stands, with its brackets.
     pub span: Span,
-    pub name: TypeName,
+    pub kind: WrittenKind,
 }
 
-/// An expression. The first part of each variant is where the whole of it stands.
-#[derive(Debug, Drop)]
+/// An expression. `span` is where the whole of it stands.
+#[derive(Drop)]
 pub enum Expr {
-    /// A literal.
-    Literal(Span, Literal),
-    /// A column, with the place of its qualifier, if any, and of its name.
-    Column(Span, Option<Span>, Span),
+    Literal {
+        span: Span,
+        value: Literal,
+    },
+    /// A column, with its qualifier, if any.
+    Column {
+        span: Span,
+        qualifier: Option<Name>,
+        name: Name,
+    },
     /// An expression in brackets.
-    Group(Span, Boxed<Expr>),
-    /// A sign or NOT, with its place, and the operand.
-    Unary(Span, Prefix, Span, Boxed<Expr>),
-    /// An operator, with its place, and the operands.
-    Binary(Span, Operator, Span, Boxed<Expr>, Boxed<Expr>),
-    /// `IS [NOT] ..`: what it asks for, whether NOT stands there, the place from IS to its end, and
-    /// the operand.
-    Is(Span, Truth, bool, Span, Boxed<Expr>),
-    /// `[NOT] BETWEEN`: whether NOT stands there, the place of these words, the operand and the two
-    /// bounds.
-    Between(Span, bool, Span, Boxed<Expr>, Boxed<Expr>, Boxed<Expr>),
-    /// `[NOT] IN`: whether NOT stands there, the place of these words, the operand and the items, of
-    /// which there is one at least.
-    In(Span, bool, Span, Boxed<Expr>, Exprs),
-    /// CASE: its place, the branches, of which there is one at least, and what stands behind ELSE.
-    Case(Span, Span, Branches, Option<Boxed<Expr>>),
-    /// CAST: its place, the operand and the type.
-    Cast(Span, Span, Boxed<Expr>, WrittenType),
-    /// A call of a function: the place of its name, and the arguments.
-    Call(Span, Span, Exprs),
+    Group {
+        span: Span,
+        inner: Boxed<Expr>,
+    },
+    /// A sign or NOT, which stands at `place`.
+    Unary {
+        span: Span,
+        prefix: Prefix,
+        place: Span,
+        operand: Boxed<Expr>,
+    },
+    /// An operator, which stands at `place`.
+    Binary {
+        span: Span,
+        operator: Operator,
+        place: Span,
+        left: Boxed<Expr>,
+        right: Boxed<Expr>,
+    },
+    /// `IS [NOT] ..`, from IS to its end at `place`.
+    Is {
+        span: Span,
+        truth: Truth,
+        not: bool,
+        place: Span,
+        operand: Boxed<Expr>,
+    },
+    /// `[NOT] BETWEEN`, at `place`.
+    Between {
+        span: Span,
+        not: bool,
+        place: Span,
+        operand: Boxed<Expr>,
+        low: Boxed<Expr>,
+        high: Boxed<Expr>,
+    },
+    /// `[NOT] IN`, at `place`, with one item at least.
+    In {
+        span: Span,
+        not: bool,
+        place: Span,
+        operand: Boxed<Expr>,
+        items: Exprs,
+    },
+    /// CASE, at `place`, with one branch at least and what stands behind ELSE.
+    Case {
+        span: Span,
+        place: Span,
+        branches: Branches,
+        otherwise: Option<Boxed<Expr>>,
+    },
+    /// CAST, at `place`.
+    Cast {
+        span: Span,
+        place: Span,
+        operand: Boxed<Expr>,
+        wanted: WrittenType,
+    },
+    /// A call of a function.
+    Call {
+        span: Span,
+        function: Name,
+        arguments: Exprs,
+    },
 }
 
-/// A statement. A table is told by the place of its name.
-#[derive(Debug, Drop)]
+impl Expr {
+    ghost use Rattle.std.specs.Prelude.{◌≡◌};
+    ghost use Rattle.sql_tree.specs.Spans.{span_of};
+
+    /// Where the whole expression stands.
+    pub fn span(&self) -> Span
+        ensures { result ≡ span_of self.now }
+    {
+        match self {
+            Expr::Literal { span, .. }
+            | Expr::Column { span, .. }
+            | Expr::Group { span, .. }
+            | Expr::Unary { span, .. }
+            | Expr::Binary { span, .. }
+            | Expr::Is { span, .. }
+            | Expr::Between { span, .. }
+            | Expr::In { span, .. }
+            | Expr::Case { span, .. }
+            | Expr::Cast { span, .. }
+            | Expr::Call { span, .. } => *span,
+        }
+    }
+}
+
+/// A statement.
+#[derive(Drop)]
 pub enum Stmt {
-    /// `SHOW FILES table`
-    ShowFiles { table: Span },
-    /// `DELETE FROM table`
-    Delete { table: Span },
+    /// `SHOW FILES table`: the paths of the live files of the newest version.
+    ShowFiles { table: TableName },
+    /// `DELETE FROM table`: removes all rows, as a new version.
+    Delete { table: TableName },
 }

@@ -8,7 +8,7 @@ use Rattle.sql_grammar.proofs.laws.common_fronts.Goals as goal
 
 pub returns : goal.returns
 returns c = record {
-  names = λ depth. optional_front tree.named (one (any names_alone)) (valued tree.qualified (both (g.token Dot) g.name)) (g.arguments depth (g.inside depth));
-  dates = λ depth. optional_front tree.named (one (any dates)) (valued tree.dated g.text) (g.tail depth (g.inside depth));
-  ranges = λ depth. common_front tree.maybe_not (g.maybe (g.token Not)) (g.between depth (g.inside depth)) (g.among depth (g.inside depth));
+  names = λ bytes depth. optional_front (tree.named bytes) (one (any names_alone)) (valued (tree.qualified bytes) (both (g.token Dot) g.name)) (g.arguments bytes depth (g.inside bytes depth));
+  dates = λ bytes depth. optional_front (tree.named bytes) (one (any dates)) (valued (tree.dated bytes) g.text) (g.tail bytes depth (g.inside bytes depth));
+  ranges = λ bytes depth. common_front tree.maybe_not (g.maybe (g.token Not)) (g.between bytes depth (g.inside bytes depth)) (g.among bytes depth (g.inside bytes depth));
 }

@@ -88,19 +88,19 @@ abbrev pub decreases-operand : goal.decreases-operand
 decreases-operand l = 32 * l.depth + rank l.level
 
 abbrev pub invariant-chain-items : goal.invariant-chain-items
-invariant-chain-items l = run_chain (operators l.level) (run_operand l.depth (run_inside l.depth) l.level) l.fn.tokens ≡ run_rest joined (operators l.level) (run_both (run_one (operators l.level)) (run_operand l.depth (run_inside l.depth) l.level)) l.left l.tokens
+invariant-chain-items l = run_chain (operators l.level) (run_operand l.source l.depth (run_inside l.source l.depth) l.level) l.fn.tokens ≡ run_rest joined (operators l.level) (run_both (run_one (operators l.level)) (run_operand l.source l.depth (run_inside l.source l.depth) l.level)) l.left l.tokens
 
 abbrev pub decreases-chain-items : goal.decreases-chain-items
 decreases-chain-items l = length l.tokens
 
 abbrev pub invariant-list-items : goal.invariant-list-items
-invariant-list-items l = run_commas (run_inside l.depth) l.fn.tokens ≡ run_rest at_end (is Comma) (run_next (run_inside l.depth)) l.all l.tokens
+invariant-list-items l = run_commas (run_inside l.source l.depth) l.fn.tokens ≡ run_rest at_end (is Comma) (run_next (run_inside l.source l.depth)) l.all l.tokens
 
 abbrev pub decreases-list-items : goal.decreases-list-items
 decreases-list-items l = length l.tokens
 
 abbrev pub invariant-branches-items : goal.invariant-branches-items
-invariant-branches-items l = run_branches l.depth (run_inside l.depth) l.fn.tokens ≡ run_rest at_end (is When) (run_branch l.depth (run_inside l.depth)) l.all l.tokens
+invariant-branches-items l = run_branches l.source l.depth (run_inside l.source l.depth) l.fn.tokens ≡ run_rest at_end (is When) (run_branch l.source l.depth (run_inside l.source l.depth)) l.all l.tokens
 
 abbrev pub decreases-branches-items : goal.decreases-branches-items
 decreases-branches-items l = length l.tokens

@@ -5,13 +5,13 @@ use Rattle.sql_reader.proofs.Cut.{same_value, same_place}
 use Rattle.sql_reader.proofs.statement.expression_of.Goals as goal
 
 pub returns-in-Ok-clause-found : goal.returns-in-Ok-clause-found
-returns-in-Ok-clause-found c = end_found expression_leads.meets.exact c.args.tokens.now c.in-Ok.found c.whole_expression.new.tokens (rw c.new-cursor.ensures at c.in-Ok.ensures)
+returns-in-Ok-clause-found c = end_found (expression_leads c.args.bytes.now).meets.exact c.args.tokens.now c.in-Ok.found c.whole_expression.new.tokens (rw (c.new-cursor.ensures, c.new-source.ensures) at c.in-Ok.ensures)
 
 pub returns-in-Ok-clause-only : goal.returns-in-Ok-clause-only
-returns-in-Ok-clause-only c = λ a h. same_value (sym (rw c.new-cursor.ensures at c.in-Ok.ensures) ∙ end_only expression_leads.meets.exact c.args.tokens.now a h)
+returns-in-Ok-clause-only c = λ a h. same_value (sym (rw (c.new-cursor.ensures, c.new-source.ensures) at c.in-Ok.ensures) ∙ end_only (expression_leads c.args.bytes.now).meets.exact c.args.tokens.now a h)
 
 pub returns-in-Err-Refused-clause-only : goal.returns-in-Err-Refused-clause-only
-returns-in-Err-Refused-clause-only c = λ a h. let e = sym (rw (c.in-Err-Refused.field-0-is, c.new-cursor.ensures) at c.in-Err-Refused.ensures) ∙ end_only expression_leads.meets.exact c.args.tokens.now a h in absurd (cc)
+returns-in-Err-Refused-clause-only c = λ a h. let e = sym (rw (c.in-Err-Refused.field-0-is, c.new-cursor.ensures, c.new-source.ensures) at c.in-Err-Refused.ensures) ∙ end_only (expression_leads c.args.bytes.now).meets.exact c.args.tokens.now a h in absurd (cc)
 
 pub returns-in-Err-Refused-clause-place : goal.returns-in-Err-Refused-clause-place
-returns-in-Err-Refused-clause-place c = λ at e. (c.whole_expression.new.tokens, end_place expression_leads.meets.exact c.args.tokens.now c.whole_expression.new.tokens (rw (c.in-Err-Refused.field-0-is, c.new-cursor.ensures) at c.in-Err-Refused.ensures), same_place e ∙ c.place.ensures)
+returns-in-Err-Refused-clause-place c = λ at e. (c.whole_expression.new.tokens, end_place (expression_leads c.args.bytes.now).meets.exact c.args.tokens.now c.whole_expression.new.tokens (rw (c.in-Err-Refused.field-0-is, c.new-cursor.ensures, c.new-source.ensures) at c.in-Err-Refused.ensures), same_place e ∙ c.place.ensures)

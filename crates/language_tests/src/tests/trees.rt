@@ -1,7 +1,9 @@
 // Expressions of every form with their trees, and scripts, by hand; places of what is none.
-use crate::build::span_of;
-use crate::{ScriptFault, read_expr, read_script};
-use sql_tree::{Expr, Literal, Operator, Prefix, Span, Stmt, Truth, TypeName, WrittenType};
+use dm_types::DataType;
+use sql_reader::{
+    Expr, Literal, Name, Number, Operator, Prefix, ScriptFault, Span, Stmt, Truth, WrittenKind,
+    WrittenType, read_expr, read_script,
+};
 use std::alloc::{AllocError, Global};
 use std::test::Fail;
 
@@ -96,21 +98,78 @@ const TREES: [(&[u8], &[u8]); 48] = [
     ),
     (
         b"CAST(CASE WHEN a THEN b END AS DECIMAL(10,2))",
-        b"CAST cast[CASE case[column a:column b;];DECIMAL(10,2) 10 2]",
+        b"CAST cast[CASE case[column a:column b;];DECIMAL(10,2)]",
     ),
 ];
 
 /// Types by their texts, in CAST.
-const TYPES: [(&[u8], TypeName); 9] = [
-    (b"CAST(a AS boolean)", TypeName::Boolean),
-    (b"CAST(a AS TINYINT)", TypeName::TinyInt),
-    (b"CAST(a AS SMALLINT)", TypeName::SmallInt),
-    (b"CAST(a AS INT)", TypeName::Int),
-    (b"CAST(a AS BIGINT)", TypeName::BigInt),
-    (b"CAST(a AS STRING)", TypeName::String),
-    (b"CAST(a AS BINARY)", TypeName::Binary),
-    (b"CAST(a AS DATE)", TypeName::Date),
-    (b"CAST(a AS TIMESTAMP)", TypeName::Timestamp),
+const TYPES: [(&[u8], DataType); 12] = [
+    (b"CAST(a AS boolean)", DataType::Boolean),
+    (b"CAST(a AS TINYINT)", DataType::Byte),
+    (b"CAST(a AS SMALLINT)", DataType::Short),
+    (b"CAST(a AS INT)", DataType::Integer),
+    (b"CAST(a AS BIGINT)", DataType::Long),
+    (b"CAST(a AS STRING)", DataType::Str),
+    (b"CAST(a AS BINARY)", DataType::Binary),
+    (b"CAST(a AS DATE)", DataType::Date),
+    (b"CAST(a AS TIMESTAMP)", DataType::Timestamp),
+    (
+        b"CAST(a AS DECIMAL(38,38))",
+        DataType::Decimal {
+            precision: 38,
+            scale: 38,
+        },
+    ),
+    (
+        b"CAST(a AS DECIMAL(1,0))",
+        DataType::Decimal {
+            precision: 1,
+            scale: 0,
+        },
+    ),
+    (
+        b"CAST(a AS DECIMAL(010,2))",
+        DataType::Decimal {
+            precision: 10,
+            scale: 2,
+        },
+    ),
+];
+
+/// DECIMALs of a bad precision or scale.
+const BAD_DECIMALS: [(&[u8], u128, u128); 4] = [
+    (b"CAST(a AS DECIMAL(0,0))", 0, 0),
+    (b"CAST(a AS DECIMAL(39,1))", 39, 1),
+    (b"CAST(a AS DECIMAL(5,6))", 5, 6),
+    (
+        b"CAST(a AS DECIMAL(9223372036854775807,0))",
+        9223372036854775807,
+        0,
+    ),
+];
+
+/// Columns, calls and literals, and the names, texts and bytes in them.
+const CONTENTS: [(&[u8], &[u8]); 12] = [
+    (b"Files", b"Files"),
+    (b"`a``b`", b"a`b"),
+    (b"`a b` . `c d`", b"a b.c d"),
+    (b"date.Timestamp", b"date.Timestamp"),
+    (b"`if`(1)", b"if"),
+    (b"DATE()", b"DATE"),
+    (b"'it''s'", b"it's"),
+    (b"''", b""),
+    (b"X'0aFf'", b"\x0a\xff"),
+    (b"x''", b""),
+    (b"DATE '2024-01-01'", b"2024-01-01"),
+    (b"TIMESTAMP 'it''s no'", b"it's no"),
+];
+
+/// Numbers: without the point, their precision and their scale.
+const NUMBERS: [(&[u8], (u128, usize, usize)); 4] = [
+    (b"007", (7, 1, 0)),
+    (b"9223372036854775808", (9223372036854775808, 19, 0)),
+    (b"001.50", (150, 3, 2)),
+    (b"0.00", (0, 2, 2)),
 ];
 
 /// What is no expression, and where it goes wrong.
@@ -212,17 +271,17 @@ fn push(bytes: &[u8], span: Span, out: &mut Vec<u8>) -> Result<(), AllocError> {
     }
 }
 
-fn literal_name(literal: Literal) -> &'static [u8] {
+fn literal_name(literal: &Literal) -> &'static [u8] {
     match literal {
         Literal::Null => b"null ",
         Literal::True => b"true ",
         Literal::False => b"false ",
-        Literal::Whole => b"whole ",
-        Literal::Decimal => b"decimal ",
-        Literal::Text => b"text ",
-        Literal::Bytes => b"bytes ",
-        Literal::Date(_) => b"date ",
-        Literal::Timestamp(_) => b"timestamp ",
+        Literal::Whole(_) => b"whole ",
+        Literal::Decimal(_) => b"decimal ",
+        Literal::Text(_) => b"text ",
+        Literal::Bytes(_) => b"bytes ",
+        Literal::Date { .. } => b"date ",
+        Literal::Timestamp { .. } => b"timestamp ",
     }
 }
 
@@ -263,17 +322,6 @@ fn truth_name(not: bool, truth: Truth) -> &'static [u8] {
         (true, Truth::True) => b" not true[",
         (true, Truth::False) => b" not false[",
     }
-}
-
-fn show_type(bytes: &[u8], written: WrittenType, out: &mut Vec<u8>) -> Result<(), AllocError> {
-    push(bytes, written.span, out)?;
-    if let TypeName::Decimal(precision, scale) = written.name {
-        out.extend_from_slice(b" ")?;
-        push(bytes, precision, out)?;
-        out.extend_from_slice(b" ")?;
-        push(bytes, scale, out)?;
-    }
-    Ok(())
 }
 
 #[cycle(show)]
@@ -318,26 +366,39 @@ fn show_unary(
 #[cycle(show)]
 fn show(bytes: &[u8], expr: &Expr, out: &mut Vec<u8>) -> Result<(), AllocError> {
     match expr {
-        Expr::Literal(span, literal) => {
-            out.extend_from_slice(literal_name(*literal))?;
+        Expr::Literal { span, value } => {
+            out.extend_from_slice(literal_name(value))?;
             push(bytes, *span, out)
         }
-        Expr::Column(_, qualifier, name) => {
+        Expr::Column {
+            qualifier,
+            name,
+            ..
+        } => {
             out.extend_from_slice(b"column ")?;
             if let Some(qualifier) = qualifier {
-                push(bytes, *qualifier, out)?;
+                push(bytes, qualifier.span, out)?;
                 out.extend_from_slice(b".")?;
             }
-            push(bytes, *name, out)
+            push(bytes, name.span, out)
         }
-        Expr::Group(span, inner) => {
+        Expr::Group { span, inner } => {
             out.extend_from_slice(b"group ")?;
             show_unary(bytes, *span, b" [", inner.get(), out)
         }
-        Expr::Unary(_, prefix, place, inner) => {
-            show_unary(bytes, *place, prefix_name(*prefix), inner.get(), out)
-        }
-        Expr::Binary(_, operator, place, left, right) => {
+        Expr::Unary {
+            prefix,
+            place,
+            operand,
+            ..
+        } => show_unary(bytes, *place, prefix_name(*prefix), operand.get(), out),
+        Expr::Binary {
+            operator,
+            place,
+            left,
+            right,
+            ..
+        } => {
             push(bytes, *place, out)?;
             out.extend_from_slice(operator_name(*operator))?;
             show(bytes, left.get(), out)?;
@@ -345,10 +406,21 @@ fn show(bytes: &[u8], expr: &Expr, out: &mut Vec<u8>) -> Result<(), AllocError> 
             show(bytes, right.get(), out)?;
             out.extend_from_slice(b"]")
         }
-        Expr::Is(_, truth, not, place, inner) => {
-            show_unary(bytes, *place, truth_name(*not, *truth), inner.get(), out)
-        }
-        Expr::Between(_, not, place, operand, low, high) => {
+        Expr::Is {
+            truth,
+            not,
+            place,
+            operand,
+            ..
+        } => show_unary(bytes, *place, truth_name(*not, *truth), operand.get(), out),
+        Expr::Between {
+            not,
+            place,
+            operand,
+            low,
+            high,
+            ..
+        } => {
             push(bytes, *place, out)?;
             out.extend_from_slice(if *not { b" not between[" } else { b" between[" })?;
             show(bytes, operand.get(), out)?;
@@ -358,7 +430,13 @@ fn show(bytes: &[u8], expr: &Expr, out: &mut Vec<u8>) -> Result<(), AllocError> 
             show(bytes, high.get(), out)?;
             out.extend_from_slice(b"]")
         }
-        Expr::In(_, not, place, operand, items) => {
+        Expr::In {
+            not,
+            place,
+            operand,
+            items,
+            ..
+        } => {
             push(bytes, *place, out)?;
             out.extend_from_slice(if *not { b" not in[" } else { b" in[" })?;
             show(bytes, operand.get(), out)?;
@@ -366,7 +444,12 @@ fn show(bytes: &[u8], expr: &Expr, out: &mut Vec<u8>) -> Result<(), AllocError> 
             show_all(bytes, items.as_slice(), out)?;
             out.extend_from_slice(b"]")
         }
-        Expr::Case(_, place, branches, otherwise) => {
+        Expr::Case {
+            place,
+            branches,
+            otherwise,
+            ..
+        } => {
             push(bytes, *place, out)?;
             out.extend_from_slice(b" case[")?;
             show_branches(bytes, branches.as_slice(), out)?;
@@ -376,21 +459,81 @@ fn show(bytes: &[u8], expr: &Expr, out: &mut Vec<u8>) -> Result<(), AllocError> 
             }
             out.extend_from_slice(b"]")
         }
-        Expr::Cast(_, place, operand, written) => {
+        Expr::Cast {
+            place,
+            operand,
+            wanted,
+            ..
+        } => {
             push(bytes, *place, out)?;
             out.extend_from_slice(b" cast[")?;
             show(bytes, operand.get(), out)?;
             out.extend_from_slice(b";")?;
-            show_type(bytes, *written, out)?;
+            push(bytes, wanted.span, out)?;
             out.extend_from_slice(b"]")
         }
-        Expr::Call(_, name, arguments) => {
+        Expr::Call {
+            function,
+            arguments,
+            ..
+        } => {
             out.extend_from_slice(b"call ")?;
-            push(bytes, *name, out)?;
+            push(bytes, function.span, out)?;
             out.extend_from_slice(b"[")?;
             show_all(bytes, arguments.as_slice(), out)?;
             out.extend_from_slice(b"]")
         }
+    }
+}
+
+/// The names, the text or the bytes of an expression.
+fn content_of(alloc: Global, expr: &Expr) -> Result<Vec<u8>, AllocError> {
+    let mut out = Vec::new(alloc);
+    match expr {
+        Expr::Column {
+            qualifier,
+            name,
+            ..
+        } => {
+            if let Some(qualifier) = qualifier {
+                out.extend_from_slice(qualifier.text.as_bytes())?;
+                out.extend_from_slice(b".")?;
+            }
+            out.extend_from_slice(name.text.as_bytes())?;
+        }
+        Expr::Call { function, .. } => out.extend_from_slice(function.text.as_bytes())?,
+        Expr::Literal { value, .. } => push_literal(value, &mut out)?,
+        _ => {}
+    }
+    Ok(out)
+}
+
+fn push_literal(value: &Literal, out: &mut Vec<u8>) -> Result<(), AllocError> {
+    match value {
+        Literal::Text(text) | Literal::Date { text, .. } | Literal::Timestamp { text, .. } => {
+            out.extend_from_slice(text.as_bytes())
+        }
+        Literal::Bytes(bytes) => out.extend_from_slice(bytes.as_slice()),
+        _ => Ok(()),
+    }
+}
+
+/// The number that an expression is.
+fn number_of(expr: &Expr) -> Option<(u128, usize, usize)> {
+    match expr {
+        Expr::Literal {
+            value: Literal::Whole(number) | Literal::Decimal(number),
+            ..
+        } => Some((number.unscaled, number.precision, number.scale)),
+        _ => None,
+    }
+}
+
+/// The type that an expression casts to.
+fn wanted_of(expr: &Expr) -> Option<WrittenKind> {
+    match expr {
+        Expr::Cast { wanted, .. } => Some(wanted.kind),
+        _ => None,
     }
 }
 
@@ -435,23 +578,38 @@ fn expressions_have_their_trees(rt: HostRuntime) -> Result<(), Fail> {
     for (bytes, tree) in TREES {
         let mut shown = Vec::new(alloc);
         if let Ok(expr) = read_expr(alloc, bytes) {
-            assert_eq!(rt;
-                span_of(&expr),
-                Span {
-                    start: 0,
-                    end: bytes.len()
-                }
-            );
+            assert_eq!(rt; (expr.span().start, expr.span().end), (0, bytes.len()));
             show(bytes, &expr, &mut shown)?;
         }
         assert_eq!(rt; shown.as_slice(), tree);
     }
+    Ok(())
+}
+
+#[test]
+fn trees_have_their_contents(rt: HostRuntime) -> Result<(), Fail> {
+    let alloc = rt.alloc();
+    for (bytes, wanted) in CONTENTS {
+        let expr = read_expr(alloc, bytes)?;
+        assert_eq!(rt; content_of(alloc, &expr)?.as_slice(), wanted, "{bytes:?}");
+    }
+    for (bytes, wanted) in NUMBERS {
+        let expr = read_expr(alloc, bytes)?;
+        assert_eq!(rt; number_of(&expr), Some(wanted), "{bytes:?}");
+    }
     for (bytes, wanted) in TYPES {
-        let mut found = None;
-        if let Ok(Expr::Cast(_, _, _, written)) = read_expr(alloc, bytes) {
-            found = Some(written.name);
-        }
-        assert_eq!(rt; found, Some(wanted));
+        let found = match wanted_of(&read_expr(alloc, bytes)?) {
+            Some(WrittenKind::Type(found)) => Some(found),
+            _ => None,
+        };
+        assert_eq!(rt; found, Some(wanted), "{bytes:?}");
+    }
+    for (bytes, precision, scale) in BAD_DECIMALS {
+        let found = match wanted_of(&read_expr(alloc, bytes)?) {
+            Some(WrittenKind::BadDecimal { precision, scale }) => Some((precision, scale)),
+            _ => None,
+        };
+        assert_eq!(rt; found, Some((precision, scale)), "{bytes:?}");
     }
     Ok(())
 }
@@ -522,7 +680,7 @@ fn long_scripts_are_read(rt: HostRuntime) -> Result<(), Fail> {
         Ok(statements) => {
             assert_eq!(rt; statements.len(), 74898);
             let second = match statements.get(1) {
-                Some(Stmt::Delete { table }) => Some(table.start),
+                Stmt::Delete { table } if table.text.is("t") => Some(table.span.start),
                 _ => None,
             };
             assert_eq!(rt; second, Some(25));

@@ -1,11 +1,11 @@
 // Tokens by hand, of every form and every kind of bad token, and long scripts.
-use crate::{bytes_of, name_of, number_of, read_tokens_of, text_of};
+use sql_lex::{bytes_of, name_of, number_of, read_tokens_of, table_of, text_of};
 use sql_tree::{Kind, Token};
 use std::alloc::{AllocError, Global};
 use std::test::Fail;
 
 /// Bytes, and their tokens: what each is, where it begins and where it ends.
-const TOKENS: [(&[u8], &[(Kind, usize, usize)]); 47] = [
+const TOKENS: [(&[u8], &[(Kind, usize, usize)]); 51] = [
     // Nothing, white space and comments.
     (b"", &[]),
     (b" \t\r\n", &[]),
@@ -242,6 +242,59 @@ const TOKENS: [(&[u8], &[(Kind, usize, usize)]); 47] = [
             (Kind::Whole, 12, 13),
         ],
     ),
+    // USING stands before STATS in a SELECT, and before a table elsewhere.
+    (
+        b"SELECT a FROM 1 USING stats; USING 1",
+        &[
+            (Kind::Select, 0, 6),
+            (Kind::Name, 7, 8),
+            (Kind::From, 9, 13),
+            (Kind::Table, 14, 15),
+            (Kind::Using, 16, 21),
+            (Kind::Stats, 22, 27),
+            (Kind::Semicolon, 27, 28),
+            (Kind::Using, 29, 34),
+            (Kind::Table, 35, 36),
+        ],
+    ),
+    (
+        b"MERGE INTO 1 USING stats",
+        &[
+            (Kind::Merge, 0, 5),
+            (Kind::Into, 6, 10),
+            (Kind::Table, 11, 12),
+            (Kind::Using, 13, 18),
+            (Kind::Table, 19, 24),
+        ],
+    ),
+    // OPTIMIZE stands before a table where it begins a statement.
+    (
+        b"OPTIMIZE 1; optimize optimize; a optimize 1",
+        &[
+            (Kind::Optimize, 0, 8),
+            (Kind::Table, 9, 10),
+            (Kind::Semicolon, 10, 11),
+            (Kind::Optimize, 12, 20),
+            (Kind::Table, 21, 29),
+            (Kind::Semicolon, 29, 30),
+            (Kind::Name, 31, 32),
+            (Kind::Optimize, 33, 41),
+            (Kind::Whole, 42, 43),
+        ],
+    ),
+    (
+        b"RESTORE TABLE 1 TO VERSION AS OF 1",
+        &[
+            (Kind::Restore, 0, 7),
+            (Kind::TableWord, 8, 13),
+            (Kind::Table, 14, 15),
+            (Kind::To, 16, 18),
+            (Kind::Version, 19, 26),
+            (Kind::As, 27, 29),
+            (Kind::Of, 30, 32),
+            (Kind::Whole, 33, 34),
+        ],
+    ),
     (
         b"FROM aaaaaaaaaaaaaaaaaaaaaaaaaaaaaaaaaaaaaaaaaaaaaaaaaaaaaaaaaaaaaaaaaaaaaaaaaaaaaaaaaaaaaaaaaaaaaaaaaaaa",
         &[(Kind::From, 0, 4), (Kind::Table, 5, 105)],
@@ -337,6 +390,15 @@ const NAMES: [(&[u8], Option<&[u8]>); 8] = [
     (b"", None),
 ];
 
+/// Tokens, and the tables that they name.
+const TABLES: [(&[u8], Option<&[u8]>); 5] = [
+    (b"a-1._b", Some(b"a-1._b")),
+    (b"From", Some(b"From")),
+    (b".a", None),
+    (b"`a`", None),
+    (b"", None),
+];
+
 const TEXTS: [(&[u8], Option<&[u8]>); 6] = [
     (b"'it''s'", Some(b"it's")),
     (b"''''''", Some(b"''")),
@@ -379,6 +441,10 @@ const NUMBERS: [(&[u8], Option<(u128, usize, usize)>); 10] = [
 fn tokens_mean(rt: HostRuntime) -> Result<(), Fail> {
     for (token, wanted) in NAMES {
         let name = name_of(rt.alloc(), token)?;
+        assert_eq!(rt; name.as_ref().map(|it| it.as_bytes()), wanted, "{token:?}");
+    }
+    for (token, wanted) in TABLES {
+        let name = table_of(rt.alloc(), token)?;
         assert_eq!(rt; name.as_ref().map(|it| it.as_bytes()), wanted, "{token:?}");
     }
     for (token, wanted) in TEXTS {

@@ -1,0 +1,3 @@
+// Tokens, and trees.
+mod tokens;
+mod trees;
