@@ -16,7 +16,7 @@ use Rattle.script_run.specs.declared.outcome.Outcome.{Outcome}
 use Rattle.script_run.specs.declared.status.Status.{Status}
 use Rattle.script_run.specs.declared.status.Status.TheVariants as status
 use Rattle.script_run.specs.Outcome.{ending, usage_line, refused_line, IsDueOf, usage, scripted, too_long}
-use Rattle.script_run.specs.declared.statement.Statement.{Statement}
+use Rattle.sql_tree.specs.declared.tree.Stmt.{Stmt}
 use Rattle.script_run.specs.Ran.{Ran, whole, line_cut, line_unwritten, ended, ran, unread, no_memory}
 use Rattle.script_run.specs.Reaching.{Reaches, EndsRun, RunsAll, status_of_fault}
 use Rattle.script_run.proofs.Turns.{appends_none, appends_same}
@@ -74,7 +74,7 @@ pub line_ran : {W : Type 0} (words : List W) (left : Option (List ℕ)) (found :
 line_ran words left found old new line end (script, of_source, is) (text, written, ends) =
     record { script = script; text = text; of_source = of_source; written = written; does = ended line found text end is ends }
 
-pub statements_ran : {W : Type 0} (words : List W) (left : Option (List ℕ)) (files files_new : Outside) (old new : Option (List ℕ)) (statements : List Statement) (end : Status)
+pub statements_ran : {W : Type 0} (words : List W) (left : Option (List ℕ)) (files files_new : Outside) (old new : Option (List ℕ)) (statements : List Stmt) (end : Status)
     → Reaches words left (Ok (due.Runs statements)) → RunsAll statements files files_new old new end → Ran words left files files_new old new end
 statements_ran words left files files_new old new statements end (script, of_source, is) (text, written, runs) =
     record { script = script; text = text; of_source = of_source; written = written; does = ran statements files files_new text end is runs }

@@ -4,7 +4,7 @@ use Rattle.std.specs.Fmt.{decimal}
 use Rattle.script_run.specs.declared.outcome.Outcome.{Outcome}
 use Rattle.script_run.specs.declared.outcome.Due.{Due}
 use Rattle.script_run.specs.declared.outcome.Due.TheVariants as due
-use Rattle.script_run.specs.declared.statement.Statement.{Statement}
+use Rattle.sql_tree.specs.declared.tree.Stmt.{Stmt}
 use Rattle.script_run.specs.declared.status.Status.{Status}
 use Rattle.script_run.specs.declared.status.Status.TheVariants as status
 use Rattle.script_run.specs.Script.{IsScript, IsNoScript}
@@ -27,7 +27,7 @@ pub data IsDueOf : List ℕ → Due → Type 0 where
   -- a script that isn't in the grammar is refused with the place
   bad : (script : List ℕ) (at : ℕ) → length script ≤ MAX_SCRIPT → IsNoScript script at → IsDueOf script (due.Ends (ending status.BadScript (refused_line 0 (codes "P1 " ++ decimal at))))
   -- a script of the grammar is run
-  good : (script : List ℕ) (statements : List Statement) → length script ≤ MAX_SCRIPT → IsScript script statements → IsDueOf script (due.Runs statements)
+  good : (script : List ℕ) (statements : List Stmt) → length script ≤ MAX_SCRIPT → IsScript script statements → IsDueOf script (due.Runs statements)
 
 -- what these words and this script make due: no words are accepted yet
 pub data IsDue {W : Type 0} (words : List W) (script : List ℕ) : Due → Type 0 where

@@ -5,7 +5,7 @@ use Rattle.dm_store.specs.Causes.{Rose}
 use Rattle.script_run.specs.declared.status.Status.{Status}
 use Rattle.script_run.specs.declared.status.Status.TheVariants as status
 use Rattle.script_run.specs.declared.outcome.Outcome.{Outcome}
-use Rattle.script_run.specs.declared.statement.Statement.{Statement}
+use Rattle.sql_tree.specs.declared.tree.Stmt.{Stmt}
 use Rattle.script_run.specs.declared.outcome.Due.TheVariants as due
 use Rattle.script_run.specs.Outcome.{IsDue}
 use Rattle.table_write.specs.Outside.{Outside}
@@ -72,7 +72,7 @@ pub data Does {W : Type 0} (words : List W) (script : List ℕ) : Outside → Ou
   -- the line is written
   ended : (ending : Outcome) (old : Outside) (text : List ℕ) (how : Status) → IsDue words script (due.Ends ending) → EndsLine ending text how → Does words script old old text how
   -- the statements are run, the first with the number 1
-  ran : (statements : List Statement) (old new : Outside) (text : List ℕ) (how : Status) → IsDue words script (due.Runs statements) → Runs 1 statements old new text how → Does words script old new text how
+  ran : (statements : List Stmt) (old new : Outside) (text : List ℕ) (how : Status) → IsDue words script (due.Runs statements) → Runs 1 statements old new text how → Does words script old new text how
   -- a call of the source failed before the script was read, which only a run without words asks for
   unread : (old : Outside) → words ≡ [] → Does words script old old [] status.SourceFailed
   -- there was no memory

@@ -9,7 +9,7 @@ use Rattle.script_run.specs.declared.halt.Halt.TheVariants as halt
 use Rattle.script_run.specs.declared.outcome.Outcome.{Outcome}
 use Rattle.script_run.specs.declared.outcome.Due.{Due}
 use Rattle.script_run.specs.declared.outcome.Due.TheVariants as due
-use Rattle.script_run.specs.declared.statement.Statement.{Statement}
+use Rattle.sql_tree.specs.declared.tree.Stmt.{Stmt}
 use Rattle.script_run.specs.declared.status.Status.{Status}
 use Rattle.script_run.specs.declared.status.Status.TheVariants as status
 use Rattle.script_run.specs.Outcome.{IsDue}
@@ -35,7 +35,7 @@ ReadsBefore (Err halt.Source) old new = ⊤
 ReadsBefore (Err halt.Memory) old new = ⊤
 
 -- what reading a script answers
-abbrev pub ReadsScript : List ℕ → Result (List Statement) ScriptFault → Type 0
+abbrev pub ReadsScript : List ℕ → Result (List Stmt) ScriptFault → Type 0
 ReadsScript script (Ok statements) = IsScript script statements
 ReadsScript script (Err (fault.BadScript at)) = IsNoScript script at
 ReadsScript script (Err fault.Memory) = ⊤
@@ -62,12 +62,12 @@ status_of_fault sink.Failed = status.SinkFailed
 status_of_fault sink.Memory = status.NoMemory
 
 -- a statement is run and its text written: the next is run, or the run ends
-abbrev pub RunsOne : ℕ → Statement → Outside → Outside → Option (List ℕ) → Option (List ℕ) → Result (Unit {0}) Status → Type 0
+abbrev pub RunsOne : ℕ → Stmt → Outside → Outside → Option (List ℕ) → Option (List ℕ) → Result (Unit {0}) Status → Type 0
 RunsOne number first before after old new (Ok _) = (text : List ℕ) × Answers first before (Ok text) after × Appends old new text
-RunsOne number first before after old new (Err ended) = (text : List ℕ) × Appends old new text × ((more : List Statement) → Runs number (first ∷ more) before after text ended)
+RunsOne number first before after old new (Err ended) = (text : List ℕ) × Appends old new text × ((more : List Stmt) → Runs number (first ∷ more) before after text ended)
 
 -- statements are run and their texts written
-abbrev pub RunsAll : List Statement → Outside → Outside → Option (List ℕ) → Option (List ℕ) → Status → Type 0
+abbrev pub RunsAll : List Stmt → Outside → Outside → Option (List ℕ) → Option (List ℕ) → Status → Type 0
 RunsAll statements before after old new ended = (text : List ℕ) × Appends old new text × Runs 1 statements before after text ended
 
 -- where the run goes on no count rose

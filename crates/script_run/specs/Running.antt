@@ -4,8 +4,8 @@ use Rattle.dm_types.specs.declared.refusal.Refused.{Refused}
 use Rattle.dm_types.specs.declared.refusal.Stop.{Stop}
 use Rattle.dm_types.specs.declared.refusal.Stop.TheVariants as stop
 use Rattle.table_load.specs.Tells.{Tells}
-use Rattle.script_run.specs.declared.statement.Statement.{Statement}
-use Rattle.script_run.specs.declared.statement.Statement.TheVariants as statement
+use Rattle.sql_tree.specs.declared.tree.Stmt.{Stmt}
+use Rattle.sql_tree.specs.declared.tree.Stmt.TheVariants as stmt
 use Rattle.script_run.specs.declared.status.Status.{Status}
 use Rattle.script_run.specs.declared.status.Status.TheVariants as status
 use Rattle.table_write.specs.Delete.{delete_from}
@@ -17,9 +17,9 @@ use Rattle.table_write.specs.Writing.{CarriesOut}
 
 -- a statement over the outside before it: its text, its refusal or why it stopped, and the outside that it leaves. Each
 -- kind of statement is a case; one that only reads touches nothing
-abbrev pub Answers : Statement → Outside → Result (List ℕ) Stop → Outside → Type 0
-Answers (statement.ShowFiles table) old answer new = Tells old.files (show_files table) answer × (new ≡ old)
-Answers (statement.Delete table) old answer new = CarriesOut (delete_from table) old answer new
+abbrev pub Answers : Stmt → Outside → Result (List ℕ) Stop → Outside → Type 0
+Answers (stmt.ShowFiles table) old answer new = Tells old.files (show_files table.text) answer × (new ≡ old)
+Answers (stmt.Delete table) old answer new = CarriesOut (delete_from table.text) old answer new
 
 -- a statement's text, or why it is refused
 abbrev pub Answer : Type 0
@@ -36,26 +36,26 @@ text_of number (Err refusal) = refused_line number (refused_cause refusal)
 
 -- statements, the first of this number, are run in turn over the outside: what they leave, what is written, and how the
 -- run ends
-pub data Runs : ℕ → List Statement → Outside → Outside → List ℕ → Status → Type 0 where
+pub data Runs : ℕ → List Stmt → Outside → Outside → List ℕ → Status → Type 0 where
   -- no statement is left
   done : (number : ℕ) (old : Outside) → Runs number [] old old [] status.Done
   -- the first is accepted, its text is written, and the others are run
-  accepted : (number : ℕ) (first : Statement) (more : List Statement) (old mid new : Outside) (text rest : List ℕ) (ended : Status)
+  accepted : (number : ℕ) (first : Stmt) (more : List Stmt) (old mid new : Outside) (text rest : List ℕ) (ended : Status)
       → Answers first old (Ok text) mid → Runs (number + 1) more mid new rest ended → Runs number (first ∷ more) old new (text ++ rest) ended
   -- the first is refused, and its line is written
-  refused : (number : ℕ) (first : Statement) (more : List Statement) (old new : Outside) (refusal : Refused)
+  refused : (number : ℕ) (first : Stmt) (more : List Stmt) (old new : Outside) (refusal : Refused)
       → Answers first old (Err (stop.Refused refusal)) new → Runs number (first ∷ more) old new (text_of number (Err refusal)) status.Refused
   -- a call of the store failed within the first
-  stopped : (number : ℕ) (first : Statement) (more : List Statement) (old new : Outside)
+  stopped : (number : ℕ) (first : Stmt) (more : List Stmt) (old new : Outside)
       → Answers first old (Err stop.Store) new → Runs number (first ∷ more) old new [] status.StoreFailed
   -- the draw of a name failed within the first
-  unnamed : (number : ℕ) (first : Statement) (more : List Statement) (old new : Outside)
+  unnamed : (number : ℕ) (first : Stmt) (more : List Stmt) (old new : Outside)
       → Answers first old (Err stop.Names) new → Runs number (first ∷ more) old new [] status.NamesFailed
   -- a call of the sink failed, and a front of what was due is written
-  cut : (number : ℕ) (first : Statement) (more : List Statement) (old new : Outside) (answer : Answer) (count : ℕ)
+  cut : (number : ℕ) (first : Stmt) (more : List Stmt) (old new : Outside) (answer : Answer) (count : ℕ)
       → Answers first old (with_stop answer) new → Runs number (first ∷ more) old new (take count (text_of number answer)) status.SinkFailed
   -- there was no memory within the first, or none to write for it
-  starved : (number : ℕ) (first : Statement) (more : List Statement) (old new : Outside)
+  starved : (number : ℕ) (first : Stmt) (more : List Stmt) (old new : Outside)
       → Answers first old (Err stop.Memory) new → Runs number (first ∷ more) old new [] status.NoMemory
-  unwritten : (number : ℕ) (first : Statement) (more : List Statement) (old new : Outside) (answer : Answer)
+  unwritten : (number : ℕ) (first : Stmt) (more : List Stmt) (old new : Outside) (answer : Answer)
       → Answers first old (with_stop answer) new → Runs number (first ∷ more) old new [] status.NoMemory

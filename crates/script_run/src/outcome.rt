@@ -4,13 +4,13 @@ ghost use Rattle.script_run.specs.Outcome as spec;
 ghost use Rattle.script_run.specs.Refusals.{refused_cause};
 
 use crate::cause::cause_of;
-use crate::statement::Statements;
 use crate::status::Status;
 use dm_types::{Bytes, Refused};
+use sql_reader::Stmts;
 use std::alloc::{AllocError, Global};
 
 /// A line, and the status with which it ends the run.
-#[derive(Debug, Drop)]
+#[derive(Drop)]
 pub struct Outcome {
     /// How the run ends, once the line is written.
     pub status: Status,
@@ -19,12 +19,12 @@ pub struct Outcome {
 }
 
 /// What a run has to do, by its words and its script.
-#[derive(Debug, Drop)]
+#[derive(Drop)]
 pub enum Due {
     /// To end with a line.
     Ends(Outcome),
     /// To run statements.
-    Runs(Statements),
+    Runs(Stmts),
 }
 
 impl Outcome {

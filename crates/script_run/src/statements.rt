@@ -7,10 +7,10 @@ ghost use Rattle.script_run.specs.Running.{Answers};
 
 use crate::outcome::refusal_line;
 use crate::shown::show_files;
-use crate::statement::{Statement, Statements};
 use crate::status::Status;
 use dm_store::{Clock, NameSource, Sink, Store};
 use dm_types::{Bytes, Stop};
+use sql_reader::{Stmt, Stmts};
 use std::alloc::Global;
 use table_write::delete_from;
 
@@ -22,7 +22,7 @@ pub(crate) fn run_statements<S: Store, K: Sink, C: Clock, N: NameSource>(
     out: &mut K,
     clock: &mut C,
     names: &mut N,
-    statements: &Statements,
+    statements: &Stmts,
 ) -> Status
     ensures runs { let old = outside (S.files store.old) (S.taken store.old) (N.given names.old) (C.given clock.old) in
         let new = outside (S.files store.new) (S.taken store.new) (N.given names.new) (C.given clock.new) in
@@ -49,7 +49,7 @@ fn run_numbered<S: Store, K: Sink, C: Clock, N: NameSource>(
     clock: &mut C,
     names: &mut N,
     number: u64,
-    statement: &Statement,
+    statement: &Stmt,
 ) -> Result<(), Status>
     ensures runs { let old = outside (S.files store.old) (S.taken store.old) (N.given names.old) (C.given clock.old) in
         let new = outside (S.files store.new) (S.taken store.new) (N.given names.new) (C.given clock.new) in
@@ -77,7 +77,7 @@ fn run_statement<S: Store, C: Clock, N: NameSource>(
     store: &mut S,
     clock: &mut C,
     names: &mut N,
-    statement: &Statement,
+    statement: &Stmt,
 ) -> Result<Bytes, Stop>
     ensures answer { let old = outside (S.files store.old) (S.taken store.old) (N.given names.old) (C.given clock.old) in
         let new = outside (S.files store.new) (S.taken store.new) (N.given names.new) (C.given clock.new) in
@@ -86,7 +86,7 @@ fn run_statement<S: Store, C: Clock, N: NameSource>(
     ensures draws { Counts DrawCause (N.faults names.old) (N.faults names.new) result }
 {
     match statement {
-        Statement::ShowFiles { table } => show_files(alloc, store, table),
-        Statement::Delete { table } => delete_from(alloc, store, clock, names, table),
+        Stmt::ShowFiles { table } => show_files(alloc, store, &table.text),
+        Stmt::Delete { table } => delete_from(alloc, store, clock, names, &table.text),
     }
 }
