@@ -12,12 +12,6 @@ Gives known (Ok a) = known ≡ Some a
 Gives known (Err Bad) = known ≡ None
 Gives known (Err Memory) = ⊤
 
--- the same, of what is seen of a value
-abbrev pub GivesBy : {A B : Type 0} → (B → A) → Option A → Result B Fault → Type 0
-GivesBy see known (Ok b) = known ≡ Some (see b)
-GivesBy see known (Err Bad) = known ≡ None
-GivesBy see known (Err Memory) = ⊤
-
 -- a line's actions go to the end
 abbrev pub AddsLine : ℕ → Option (List Action) → List Action → List Action → Result ⊤ ActionFault → Type 0
 AddsLine number known old new (Ok _) = option_map (λ found. old ++ found) known ≡ Some new

@@ -156,6 +156,10 @@ pub deletion_apart : (folder : List ℕ) (table : Snapshot) (time : ℤ) (fresh 
 unfolding files_of IsDistinct
 deletion_apart folder table time fresh is = rw is (record { distinct = tt; no_commit = refl })
 
+-- the same moment, as it was read and as it is written
+pub deletion_same : (folder : List ℕ) (table : Snapshot) (fresh : NewFiles) (written read : ℤ) → fresh ≡ deletion folder table written → written ≡ read → fresh ≡ deletion folder table read
+deletion_same folder table fresh written read is same = subst (λ (t : ℤ). fresh ≡ deletion folder table t) same is
+
 -- what was put is what was made
 pub put_of : (fresh made : NewFiles) (old new : Option Files) (before now : ℕ) (answer : Result (List ℕ) Stop) → fresh ≡ made → PutsVersion fresh old new before now answer → PutsVersion made old new before now answer
 put_of fresh made old new before now answer is puts = subst (λ (f : NewFiles). PutsVersion f old new before now answer) is puts
