@@ -26,6 +26,7 @@ refused_told told table stop.Memory loaded = tt
 refused_told None table (stop.Refused (refused.Table refusal)) loaded = tt
 refused_told (Some files) table (stop.Refused (refused.Table refusal)) loaded = rw loaded refl
 refused_told told table (stop.Refused (refused.Statement refusal)) loaded = loaded
+refused_told told table (stop.Refused (refused.Put refusal)) loaded = loaded
 
 pub not_shown : (told : Option Files) (table : List ℕ) (why : Stop) (answer : Result (List ℕ) Stop) → answer ≡ Err why → Tells told (λ files. commits_at None (log_of table files)) (Err why) → Tells told (λ files. show_files table files) answer
 not_shown told table why answer is loaded = subst (λ (r : Result (List ℕ) Stop). Tells told (λ files. show_files table files) r) (sym is) (refused_told told table why loaded)

@@ -23,11 +23,14 @@ refused_line number cause = codes "refused " ++ decimal number ++ codes ": " ++ 
 -- what a script makes due
 pub data IsDueOf : List ℕ → Due → Type 0 where
   -- a longer script is refused before it is read for its grammar
-  too_long : (script : List ℕ) → MAX_SCRIPT < length script → IsDueOf script (due.Ends (ending status.BadScript (refused_line 0 (codes "P2"))))
+  too_long : (script : List ℕ) → MAX_SCRIPT < length script
+      → IsDueOf script (due.Ends (ending status.BadScript (refused_line 0 (codes "P2"))))
   -- a script that isn't in the grammar is refused with the place
-  bad : (script : List ℕ) (at : ℕ) → length script ≤ MAX_SCRIPT → IsNoScript script at → IsDueOf script (due.Ends (ending status.BadScript (refused_line 0 (codes "P1 " ++ decimal at))))
+  bad : (script : List ℕ) (at : ℕ) → length script ≤ MAX_SCRIPT → IsNoScript script at
+      → IsDueOf script (due.Ends (ending status.BadScript (refused_line 0 (codes "P1 " ++ decimal at))))
   -- a script of the grammar is run
-  good : (script : List ℕ) (statements : List Stmt) → length script ≤ MAX_SCRIPT → IsScript script statements → IsDueOf script (due.Runs statements)
+  good : (script : List ℕ) (statements : List Stmt) → length script ≤ MAX_SCRIPT → IsScript script statements
+      → IsDueOf script (due.Runs statements)
 
 -- what these words and this script make due: no words are accepted yet
 pub data IsDue {W : Type 0} (words : List W) (script : List ℕ) : Due → Type 0 where

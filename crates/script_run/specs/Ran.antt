@@ -70,17 +70,22 @@ pub data EndsLine : Outcome → List ℕ → Status → Type 0 where
 -- written, and the status
 pub data Does {W : Type 0} (words : List W) (script : List ℕ) : Outside → Outside → List ℕ → Status → Type 0 where
   -- the line is written
-  ended : (ending : Outcome) (old : Outside) (text : List ℕ) (how : Status) → IsDue words script (due.Ends ending) → EndsLine ending text how → Does words script old old text how
+  ended : (ending : Outcome) (old : Outside) (text : List ℕ) (how : Status) → IsDue words script (due.Ends ending)
+      → EndsLine ending text how → Does words script old old text how
   -- the statements are run, the first with the number 1
-  ran : (statements : List Stmt) (old new : Outside) (text : List ℕ) (how : Status) → IsDue words script (due.Runs statements) → Runs 1 statements old new text how → Does words script old new text how
+  ran : (statements : List Stmt) (old new : Outside) (text : List ℕ) (how : Status)
+      → IsDue words script (due.Runs statements) → Runs 1 statements old new text how
+      → Does words script old new text how
   -- a call of the source failed before the script was read, which only a run without words asks for
   unread : (old : Outside) → words ≡ [] → Does words script old old [] status.SourceFailed
   -- there was no memory
   no_memory : (old : Outside) → Does words script old old [] status.NoMemory
 
--- what a run with these words did, by the bytes of its source, the outside before and after, what was written before and
+-- what a run with these words did, by the bytes of its source, the outside before and after, what was written before
+-- and
 -- after, and its status; where the source tells its bytes, they are the script
-pub record Ran {W : Type 0} (words : List W) (left : Option (List ℕ)) (before after : Outside) (old new : Option (List ℕ)) (status : Status) : Type 0 where
+pub record Ran {W : Type 0} (words : List W) (left : Option (List ℕ)) (before after : Outside)
+    (old new : Option (List ℕ)) (status : Status) : Type 0 where
   pub script : List ℕ
   pub text : List ℕ
   pub of_source : IfSome left (λ bytes. script ≡ bytes)

@@ -21,7 +21,8 @@ abbrev pub table_cause : TableRefusal → List ℕ
 table_cause table.NoTable = codes "O1"
 table_cause (table.LogGap version) = codes "O2" ++ codes " " ++ decimal version
 table_cause (table.BadAction version line) = codes "O3" ++ codes " " ++ decimal version ++ codes " " ++ decimal line
-table_cause (table.ProtocolUnsupported reader writer) = codes "O4" ++ codes " " ++ decimal reader ++ codes " " ++ decimal writer
+table_cause (table.ProtocolUnsupported reader writer) =
+    codes "O4" ++ codes " " ++ decimal reader ++ codes " " ++ decimal writer
 table_cause (table.UnknownFeature name) = codes "O5" ++ codes " " ++ field name
 table_cause table.NoMetadata = codes "O6"
 table_cause (table.DeletionVector path) = codes "O10" ++ codes " " ++ field path

@@ -40,11 +40,14 @@ pub data Runs : ℕ → List Stmt → Outside → Outside → List ℕ → Statu
   -- no statement is left
   done : (number : ℕ) (old : Outside) → Runs number [] old old [] status.Done
   -- the first is accepted, its text is written, and the others are run
-  accepted : (number : ℕ) (first : Stmt) (more : List Stmt) (old mid new : Outside) (text rest : List ℕ) (ended : Status)
-      → Answers first old (Ok text) mid → Runs (number + 1) more mid new rest ended → Runs number (first ∷ more) old new (text ++ rest) ended
+  accepted : (number : ℕ) (first : Stmt) (more : List Stmt) (old mid new : Outside) (text rest : List ℕ)
+      (ended : Status)
+      → Answers first old (Ok text) mid → Runs (number + 1) more mid new rest ended
+      → Runs number (first ∷ more) old new (text ++ rest) ended
   -- the first is refused, and its line is written
   refused : (number : ℕ) (first : Stmt) (more : List Stmt) (old new : Outside) (refusal : Refused)
-      → Answers first old (Err (stop.Refused refusal)) new → Runs number (first ∷ more) old new (text_of number (Err refusal)) status.Refused
+      → Answers first old (Err (stop.Refused refusal)) new
+      → Runs number (first ∷ more) old new (text_of number (Err refusal)) status.Refused
   -- a call of the store failed within the first
   stopped : (number : ℕ) (first : Stmt) (more : List Stmt) (old new : Outside)
       → Answers first old (Err stop.Store) new → Runs number (first ∷ more) old new [] status.StoreFailed
@@ -53,7 +56,8 @@ pub data Runs : ℕ → List Stmt → Outside → Outside → List ℕ → Statu
       → Answers first old (Err stop.Names) new → Runs number (first ∷ more) old new [] status.NamesFailed
   -- a call of the sink failed, and a front of what was due is written
   cut : (number : ℕ) (first : Stmt) (more : List Stmt) (old new : Outside) (answer : Answer) (count : ℕ)
-      → Answers first old (with_stop answer) new → Runs number (first ∷ more) old new (take count (text_of number answer)) status.SinkFailed
+      → Answers first old (with_stop answer) new
+      → Runs number (first ∷ more) old new (take count (text_of number answer)) status.SinkFailed
   -- there was no memory within the first, or none to write for it
   starved : (number : ℕ) (first : Stmt) (more : List Stmt) (old new : Outside)
       → Answers first old (Err stop.Memory) new → Runs number (first ∷ more) old new [] status.NoMemory

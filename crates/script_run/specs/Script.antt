@@ -9,7 +9,8 @@ use Rattle.sql_tree.specs.declared.tree.Stmt.{Stmt}
 pub record IsScript (script : List ℕ) (statements : List Stmt) : Type 0 where
   pub derived : (grammar.script script).reads (tokens script) statements []
 
--- the bytes are none; at this byte the first token begins such that no script begins with the tokens up to it, or they end
+-- the bytes are none; at this byte the first token begins such that no script begins with the tokens up to it, or they
+-- end
 pub record IsNoScript (script : List ℕ) (at : ℕ) : Type 0 where
   pub none : (statements : List Stmt) → ¬ ((grammar.script script).reads (tokens script) statements [])
   pub place : IsPlace (grammar.script script) (length script) (tokens script) at

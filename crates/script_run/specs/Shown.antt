@@ -16,4 +16,6 @@ path_lines paths = flat_map (λ path. field path ++ 10 ∷ []) paths
 
 -- the paths as logged, in byte order
 unfoldable pub show_files : List ℕ → Files → Result (List ℕ) TableRefusal
-show_files table files = go (commits_at None (log_of table files)) (λ commits. Ok (path_lines (in_byte_order (paths_of (live_adds commits)))))
+show_files table files =
+    go (commits_at None (log_of table files)) (λ commits.
+    Ok (path_lines (in_byte_order (paths_of (live_adds commits)))))

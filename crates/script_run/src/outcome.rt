@@ -56,7 +56,8 @@ impl Outcome {
 
     /// The script isn't in the grammar, and goes wrong at this byte.
     pub(crate) fn bad_script(alloc: Global, at: u64) -> Result<Outcome, AllocError>
-        ensures { IfOk result (λ it. it ≡ spec.ending status.BadScript (spec.refused_line 0 (codes "P1 " ++ decimal at))) }
+        ensures { IfOk result (λ it. it ≡ spec.ending status.BadScript (spec.refused_line 0 (codes "P1 "
+            ++ decimal at))) }
     {
         let cause = format!(in alloc; "P1 {at}")?;
         Ok(Outcome {

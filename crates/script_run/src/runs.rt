@@ -36,14 +36,16 @@ pub fn run<I: Source, S: Store, K: Sink, C: Clock, N: NameSource>(
     names: &mut N,
 ) -> u8
     ensures range { result ≤ 8 }
-    ensures blame { let before = counters (S.faults store.old) (K.faults out.old) (I.faults script.old) (N.faults names.old) in
+    ensures blame { let before = counters
+        (S.faults store.old) (K.faults out.old) (I.faults script.old) (N.faults names.old) in
         let now = counters (S.faults store.new) (K.faults out.new) (I.faults script.new) (N.faults names.new) in
         Blames (status_of result) before now }
     ensures ran { let old = outside (S.files store.old) (S.taken store.old) (N.given names.old) (C.given clock.old) in
         let new = outside (S.files store.new) (S.taken store.new) (N.given names.new) (C.given clock.new) in
         Ran words.now (I.left script.old) old new (K.written out.old) (K.written out.new) (status_of result) }
     ensures reads { ReadsSource (status_of result) (I.left script.old) (I.left script.new) }
-    ensures apart { IsBeforeStatements (status_of result) → (store.new ≡ store.old) × (clock.new ≡ clock.old) × (names.new ≡ names.old) }
+    ensures apart { IsBeforeStatements (status_of result) → (store.new ≡ store.old) × (clock.new ≡ clock.old)
+        × (names.new ≡ names.old) }
 {
     run_words(alloc, words, script, store, out, clock, names).code()
 }
@@ -58,14 +60,16 @@ fn run_words<I: Source, S: Store, K: Sink, C: Clock, N: NameSource>(
     clock: &mut C,
     names: &mut N,
 ) -> Status
-    ensures blame { let before = counters (S.faults store.old) (K.faults out.old) (I.faults script.old) (N.faults names.old) in
+    ensures blame { let before = counters
+        (S.faults store.old) (K.faults out.old) (I.faults script.old) (N.faults names.old) in
         let now = counters (S.faults store.new) (K.faults out.new) (I.faults script.new) (N.faults names.new) in
         Blames result before now }
     ensures ran { let old = outside (S.files store.old) (S.taken store.old) (N.given names.old) (C.given clock.old) in
         let new = outside (S.files store.new) (S.taken store.new) (N.given names.new) (C.given clock.new) in
         Ran words.now (I.left script.old) old new (K.written out.old) (K.written out.new) result }
     ensures reads { ReadsSource result (I.left script.old) (I.left script.new) }
-    ensures apart { IsBeforeStatements result → (store.new ≡ store.old) × (clock.new ≡ clock.old) × (names.new ≡ names.old) }
+    ensures apart { IsBeforeStatements result → (store.new ≡ store.old) × (clock.new ≡ clock.old)
+        × (names.new ≡ names.old) }
 {
     match what_is_due(alloc, words, script) {
         Ok(Due::Ends(outcome)) => end(out, &outcome),

@@ -79,7 +79,8 @@ fn run_statement<S: Store, C: Clock, N: NameSource>(
     names: &mut N,
     statement: &Stmt,
 ) -> Result<Bytes, Stop>
-    ensures answer { let old = outside (S.files store.old) (S.taken store.old) (N.given names.old) (C.given clock.old) in
+    ensures answer { let old = outside
+        (S.files store.old) (S.taken store.old) (N.given names.old) (C.given clock.old) in
         let new = outside (S.files store.new) (S.taken store.new) (N.given names.new) (C.given clock.new) in
         Answers statement.now old result new }
     ensures cause { Counts StopCause (S.faults store.old) (S.faults store.new) result }

@@ -56,7 +56,7 @@ impl Store for Below {
 }
 
 // A folder that no other test has, by its name.
-fn below(rt: HostRuntime, name: &str) -> Result<Below, Fail> {
+fn folder_of(rt: HostRuntime, name: &str) -> Result<Below, Fail> {
     let alloc = rt.alloc();
     let above = env::temp_dir(&rt)?;
     let above = above.as_str();
@@ -126,7 +126,7 @@ const CASES: [Case; 4] = [
 fn finds_tables_in_a_folder(rt: HostRuntime) -> Result<(), Fail> {
     let alloc = rt.alloc();
     for case in &CASES {
-        let mut files = below(rt, "tables")?;
+        let mut files = folder_of(rt, "tables")?;
         files.put_new(case.path, case.bytes.as_bytes())?;
         let mut clock = MemoryClock::new(WholeList::new(alloc))?;
         let (_, text) = ran(&mut files, &mut clock, case.script)?;
@@ -166,10 +166,10 @@ fn delete_all(files: &mut Below) -> Result<u8, AllocError> {
 #[test]
 fn one_of_two_programs_commits(rt: HostRuntime) -> Result<(), Fail> {
     let alloc = rt.alloc();
-    let mut files = below(rt, "programs")?;
+    let mut files = folder_of(rt, "programs")?;
     files.put_new(ZERO, TRACKED.as_bytes())?;
     let mut other = OtherProgram {
-        files: below(rt, "programs")?,
+        files: folder_of(rt, "programs")?,
         status: u8::MAX,
     };
     let (status, text) = ran(&mut files, &mut other, "DELETE FROM t;")?;
