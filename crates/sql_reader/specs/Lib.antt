@@ -1,3 +1,3 @@
-pub mod Gives
+pub mod Steps
 pub mod Classes
 pub mod Answers

@@ -5,7 +5,7 @@ ghost use Rattle.sql_grammar.specs.Reading as reading;
 ghost use Rattle.sql_grammar.specs.Reading.{run_inside};
 ghost use Rattle.sql_tree.specs.Kinds.{is};
 ghost use Rattle.sql_reader.specs.Classes.{is_in, operators, run_operand};
-ghost use Rattle.sql_reader.specs.Gives.{Gives};
+ghost use Rattle.sql_reader.specs.Steps.{Yields};
 
 use crate::build;
 use crate::class::{Class, Level};
@@ -17,7 +17,7 @@ use sqlite_items::Items;
 
 // A bracket or a CASE that is opened.
 fn open(tokens: &mut Tokens<'_>, depth: usize, kind: Kind) -> Result<Token, Fault>
-    ensures { Gives (reading.run_opening depth kind tokens.old) result tokens.new }
+    ensures { Yields (reading.run_opening depth kind tokens.old) result tokens.new }
 {
     if depth == 0 {
         return Err(Fault::Refused);
@@ -31,7 +31,7 @@ fn decimal_type(
     tokens: &mut Tokens<'_>,
     depth: usize,
 ) -> Result<WrittenType, Fault>
-    ensures { Gives (reading.run_decimal source.now depth tokens.old) result tokens.new }
+    ensures { Yields (reading.run_decimal source.now depth tokens.old) result tokens.new }
 {
     let word = tokens.take(Kind::DecimalWord)?;
     open(tokens, depth, Kind::Open)?;
@@ -52,7 +52,7 @@ fn written_type(
     tokens: &mut Tokens<'_>,
     depth: usize,
 ) -> Result<WrittenType, Fault>
-    ensures { Gives (reading.run_type source.now depth tokens.old) result tokens.new }
+    ensures { Yields (reading.run_type source.now depth tokens.old) result tokens.new }
 {
     if tokens.sees_any(Class::PlainType) {
         let word = tokens.take_any(Class::PlainType)?;
@@ -67,7 +67,7 @@ fn type_inside(
     tokens: &mut Tokens<'_>,
     depth: usize,
 ) -> Result<WrittenType, Fault>
-    ensures { Gives (reading.run_type_inside source.now depth tokens.old) result tokens.new }
+    ensures { Yields (reading.run_type_inside source.now depth tokens.old) result tokens.new }
 {
     if depth == 0 {
         return Err(Fault::Refused);
@@ -81,7 +81,7 @@ fn prefixes(
     tokens: &mut Tokens<'_>,
     class: Class,
 ) -> Result<Items<Token>, Fault>
-    ensures { Gives (reading.run_all (is_in class) (run_one (is_in class)) tokens.old) result tokens.new }
+    ensures { Yields (reading.run_all (is_in class) (run_one (is_in class)) tokens.old) result tokens.new }
 {
     let mut all = Items::new(source.alloc());
     'items: while tokens.sees_any(class) {
@@ -92,7 +92,7 @@ fn prefixes(
 
 // A NOT, if it stands here.
 fn maybe_not(tokens: &mut Tokens<'_>) -> Result<Option<Token>, Fault>
-    ensures { Gives (reading.run_maybe (is Kind.Not) (reading.run_token Kind.Not) tokens.old) result tokens.new }
+    ensures { Yields (reading.run_maybe (is Kind.Not) (reading.run_token Kind.Not) tokens.old) result tokens.new }
 {
     if !tokens.sees(Kind::Not) {
         return Ok(None);
@@ -102,7 +102,7 @@ fn maybe_not(tokens: &mut Tokens<'_>) -> Result<Option<Token>, Fault>
 
 // A dot and a name behind a qualifier.
 fn qualified(source: &Source<'_>, tokens: &mut Tokens<'_>, qualifier: Token) -> Result<Expr, Fault>
-    ensures { Gives (made (λ f. f qualifier) (reading.run_qualified source.now tokens.old)) result tokens.new }
+    ensures { Yields (made (λ f. f qualifier) (reading.run_qualified source.now tokens.old)) result tokens.new }
 {
     tokens.take(Kind::Dot)?;
     let name = tokens.take_any(Class::Name)?;
@@ -111,7 +111,7 @@ fn qualified(source: &Source<'_>, tokens: &mut Tokens<'_>, qualifier: Token) -> 
 
 // `IS [NOT] ..` behind its operand.
 fn question(source: &Source<'_>, tokens: &mut Tokens<'_>, operand: Expr) -> Result<Expr, Fault>
-    ensures { Gives (made (λ f. f operand) (reading.run_question tokens.old)) result tokens.new }
+    ensures { Yields (made (λ f. f operand) (reading.run_question tokens.old)) result tokens.new }
 {
     let word = tokens.take(Kind::Is)?;
     let not = maybe_not(tokens)?;
@@ -122,7 +122,7 @@ fn question(source: &Source<'_>, tokens: &mut Tokens<'_>, operand: Expr) -> Resu
 // An expression within one more bracket.
 #[cycle(expr)]
 fn inside(source: &Source<'_>, tokens: &mut Tokens<'_>, depth: usize) -> Result<Expr, Fault>
-    ensures { Gives (run_inside source.now depth tokens.old) result tokens.new }
+    ensures { Yields (run_inside source.now depth tokens.old) result tokens.new }
 {
     if depth == 0 {
         return Err(Fault::Refused);
@@ -133,7 +133,7 @@ fn inside(source: &Source<'_>, tokens: &mut Tokens<'_>, depth: usize) -> Result<
 // Expressions with commas between them.
 #[cycle(expr)]
 fn list(source: &Source<'_>, tokens: &mut Tokens<'_>, depth: usize) -> Result<Exprs, Fault>
-    ensures { Gives (reading.run_commas (run_inside source.now depth) tokens.old) result tokens.new }
+    ensures { Yields (reading.run_commas (run_inside source.now depth) tokens.old) result tokens.new }
 {
     let mut all = Items::new(source.alloc());
     all.push(inside(source, tokens, depth)?)?;
@@ -146,7 +146,7 @@ fn list(source: &Source<'_>, tokens: &mut Tokens<'_>, depth: usize) -> Result<Ex
 // A comma and an expression.
 #[cycle(expr)]
 fn next(source: &Source<'_>, tokens: &mut Tokens<'_>, depth: usize) -> Result<Expr, Fault>
-    ensures { Gives (reading.run_next (run_inside source.now depth) tokens.old) result tokens.new }
+    ensures { Yields (reading.run_next (run_inside source.now depth) tokens.old) result tokens.new }
 {
     tokens.take(Kind::Comma)?;
     inside(source, tokens, depth)
@@ -154,7 +154,7 @@ fn next(source: &Source<'_>, tokens: &mut Tokens<'_>, depth: usize) -> Result<Ex
 
 #[cycle(expr)]
 fn group(source: &Source<'_>, tokens: &mut Tokens<'_>, depth: usize) -> Result<Expr, Fault>
-    ensures { Gives (reading.run_group source.now depth (run_inside source.now depth) tokens.old) result tokens.new }
+    ensures { Yields (reading.run_group source.now depth (run_inside source.now depth) tokens.old) result tokens.new }
 {
     let open = open(tokens, depth, Kind::Open)?;
     let inner = inside(source, tokens, depth)?;
@@ -169,7 +169,7 @@ fn maybe_list(
     tokens: &mut Tokens<'_>,
     depth: usize,
 ) -> Result<Option<Exprs>, Fault>
-    ensures { Gives (reading.run_maybe reading.first_expr (reading.run_commas
+    ensures { Yields (reading.run_maybe reading.first_expr (reading.run_commas
         (run_inside source.now depth)) tokens.old) result tokens.new }
 {
     if !tokens.sees_expr() {
@@ -186,7 +186,7 @@ fn arguments(
     depth: usize,
     name: Token,
 ) -> Result<Expr, Fault>
-    ensures { Gives (made (λ f. f name) (reading.run_arguments source.now depth
+    ensures { Yields (made (λ f. f name) (reading.run_arguments source.now depth
         (run_inside source.now depth) tokens.old)) result tokens.new }
 {
     open(tokens, depth, Kind::Open)?;
@@ -203,7 +203,7 @@ fn tail(
     depth: usize,
     name: Token,
 ) -> Result<Expr, Fault>
-    ensures { Gives (made (λ f. f name) (reading.run_tail source.now depth
+    ensures { Yields (made (λ f. f name) (reading.run_tail source.now depth
         (run_inside source.now depth) tokens.old)) result tokens.new }
 {
     if tokens.sees(Kind::Dot) {
@@ -220,7 +220,7 @@ fn dated_tail(
     depth: usize,
     word: Token,
 ) -> Result<Expr, Fault>
-    ensures { Gives (made (λ f. f word) (reading.run_dated_tail source.now depth
+    ensures { Yields (made (λ f. f word) (reading.run_dated_tail source.now depth
         (run_inside source.now depth) tokens.old)) result tokens.new }
 {
     if tokens.sees_any(Class::Text) {
@@ -232,7 +232,7 @@ fn dated_tail(
 
 #[cycle(expr)]
 fn dated(source: &Source<'_>, tokens: &mut Tokens<'_>, depth: usize) -> Result<Expr, Fault>
-    ensures { Gives (reading.run_dated source.now depth (run_inside source.now depth) tokens.old) result tokens.new }
+    ensures { Yields (reading.run_dated source.now depth (run_inside source.now depth) tokens.old) result tokens.new }
 {
     let word = tokens.take_any(Class::Date)?;
     if !tokens.sees_dated_tail() {
@@ -243,7 +243,7 @@ fn dated(source: &Source<'_>, tokens: &mut Tokens<'_>, depth: usize) -> Result<E
 
 #[cycle(expr)]
 fn named(source: &Source<'_>, tokens: &mut Tokens<'_>, depth: usize) -> Result<Expr, Fault>
-    ensures { Gives (reading.run_named source.now depth (run_inside source.now depth) tokens.old) result tokens.new }
+    ensures { Yields (reading.run_named source.now depth (run_inside source.now depth) tokens.old) result tokens.new }
 {
     let name = tokens.take_any(Class::NameAlone)?;
     if !tokens.sees_tail() {
@@ -255,7 +255,7 @@ fn named(source: &Source<'_>, tokens: &mut Tokens<'_>, depth: usize) -> Result<E
 // WHEN and THEN.
 #[cycle(expr)]
 fn branch(source: &Source<'_>, tokens: &mut Tokens<'_>, depth: usize) -> Result<(Expr, Expr), Fault>
-    ensures { Gives (reading.run_branch source.now depth (run_inside source.now depth) tokens.old) result tokens.new }
+    ensures { Yields (reading.run_branch source.now depth (run_inside source.now depth) tokens.old) result tokens.new }
 {
     tokens.take(Kind::When)?;
     let condition = inside(source, tokens, depth)?;
@@ -266,7 +266,7 @@ fn branch(source: &Source<'_>, tokens: &mut Tokens<'_>, depth: usize) -> Result<
 
 #[cycle(expr)]
 fn branches(source: &Source<'_>, tokens: &mut Tokens<'_>, depth: usize) -> Result<Branches, Fault>
-    ensures { Gives (reading.run_branches source.now depth (run_inside source.now depth) tokens.old) result tokens.new }
+    ensures { Yields (reading.run_branches source.now depth (run_inside source.now depth) tokens.old) result tokens.new }
 {
     let mut all = Items::new(source.alloc());
     all.push(branch(source, tokens, depth)?)?;
@@ -283,7 +283,7 @@ fn otherwise(
     tokens: &mut Tokens<'_>,
     depth: usize,
 ) -> Result<Option<Expr>, Fault>
-    ensures { Gives (reading.run_maybe_otherwise source.now depth
+    ensures { Yields (reading.run_maybe_otherwise source.now depth
         (run_inside source.now depth) tokens.old) result tokens.new }
 {
     if !tokens.sees(Kind::Else) {
@@ -295,7 +295,7 @@ fn otherwise(
 
 #[cycle(expr)]
 fn case(source: &Source<'_>, tokens: &mut Tokens<'_>, depth: usize) -> Result<Expr, Fault>
-    ensures { Gives (reading.run_case source.now depth (run_inside source.now depth) tokens.old) result tokens.new }
+    ensures { Yields (reading.run_case source.now depth (run_inside source.now depth) tokens.old) result tokens.new }
 {
     let word = open(tokens, depth, Kind::Case)?;
     let branches = branches(source, tokens, depth)?;
@@ -306,7 +306,7 @@ fn case(source: &Source<'_>, tokens: &mut Tokens<'_>, depth: usize) -> Result<Ex
 
 #[cycle(expr)]
 fn cast(source: &Source<'_>, tokens: &mut Tokens<'_>, depth: usize) -> Result<Expr, Fault>
-    ensures { Gives (reading.run_cast source.now depth (run_inside source.now depth) tokens.old) result tokens.new }
+    ensures { Yields (reading.run_cast source.now depth (run_inside source.now depth) tokens.old) result tokens.new }
 {
     let word = tokens.take(Kind::Cast)?;
     open(tokens, depth, Kind::Open)?;
@@ -319,7 +319,7 @@ fn cast(source: &Source<'_>, tokens: &mut Tokens<'_>, depth: usize) -> Result<Ex
 
 #[cycle(expr)]
 fn primary(source: &Source<'_>, tokens: &mut Tokens<'_>, depth: usize) -> Result<Expr, Fault>
-    ensures { Gives (reading.run_primary source.now depth (run_inside source.now depth) tokens.old) result tokens.new }
+    ensures { Yields (reading.run_primary source.now depth (run_inside source.now depth) tokens.old) result tokens.new }
 {
     if tokens.sees_any(Class::Value) {
         return Ok(build::literal(source, tokens.take_any(Class::Value)?)?);
@@ -341,7 +341,7 @@ fn primary(source: &Source<'_>, tokens: &mut Tokens<'_>, depth: usize) -> Result
 
 #[cycle(expr)]
 fn sign(source: &Source<'_>, tokens: &mut Tokens<'_>, depth: usize) -> Result<Expr, Fault>
-    ensures { Gives (reading.run_sign source.now depth (run_inside source.now depth) tokens.old) result tokens.new }
+    ensures { Yields (reading.run_sign source.now depth (run_inside source.now depth) tokens.old) result tokens.new }
 {
     let signs = prefixes(source, tokens, Class::Sign)?;
     let expr = primary(source, tokens, depth)?;
@@ -356,7 +356,7 @@ pub(crate) fn chain(
     depth: usize,
     level: Level,
 ) -> Result<Expr, Fault>
-    ensures { Gives (reading.run_chain (operators level) (run_operand source.now depth
+    ensures { Yields (reading.run_chain (operators level) (run_operand source.now depth
         (run_inside source.now depth) level) tokens.old) result tokens.new }
 {
     let mut left = operand(source, tokens, depth, level)?;
@@ -376,7 +376,7 @@ fn operand(
     depth: usize,
     level: Level,
 ) -> Result<Expr, Fault>
-    ensures { Gives (run_operand source.now depth (run_inside source.now depth) level tokens.old) result tokens.new }
+    ensures { Yields (run_operand source.now depth (run_inside source.now depth) level tokens.old) result tokens.new }
 {
     match level {
         Level::Or => chain(source, tokens, depth, Level::And),
@@ -395,7 +395,7 @@ fn comparison(
     depth: usize,
     left: Expr,
 ) -> Result<Expr, Fault>
-    ensures { Gives (made (λ f. f left) (reading.run_comparison source.now depth
+    ensures { Yields (made (λ f. f left) (reading.run_comparison source.now depth
         (run_inside source.now depth) tokens.old)) result tokens.new }
 {
     let operator = tokens.take_any(Class::Comparison)?;
@@ -412,7 +412,7 @@ fn between(
     not: Option<Token>,
     operand: Expr,
 ) -> Result<Expr, Fault>
-    ensures { Gives (made (λ f. f not operand) (reading.run_between source.now depth
+    ensures { Yields (made (λ f. f not operand) (reading.run_between source.now depth
         (run_inside source.now depth) tokens.old)) result tokens.new }
 {
     let word = tokens.take(Kind::Between)?;
@@ -431,7 +431,7 @@ fn among(
     not: Option<Token>,
     operand: Expr,
 ) -> Result<Expr, Fault>
-    ensures { Gives (made (λ f. f not operand) (reading.run_among source.now depth
+    ensures { Yields (made (λ f. f not operand) (reading.run_among source.now depth
         (run_inside source.now depth) tokens.old)) result tokens.new }
 {
     let word = tokens.take(Kind::In)?;
@@ -449,7 +449,7 @@ fn range(
     depth: usize,
     operand: Expr,
 ) -> Result<Expr, Fault>
-    ensures { Gives (made (λ f. f operand) (reading.run_range source.now depth
+    ensures { Yields (made (λ f. f operand) (reading.run_range source.now depth
         (run_inside source.now depth) tokens.old)) result tokens.new }
 {
     let not = maybe_not(tokens)?;
@@ -467,7 +467,7 @@ fn predicate(
     depth: usize,
     operand: Expr,
 ) -> Result<Expr, Fault>
-    ensures { Gives (made (λ f. f operand) (reading.run_predicate source.now depth
+    ensures { Yields (made (λ f. f operand) (reading.run_predicate source.now depth
         (run_inside source.now depth) tokens.old)) result tokens.new }
 {
     if tokens.sees_any(Class::Comparison) {
@@ -481,7 +481,7 @@ fn predicate(
 
 #[cycle(expr)]
 fn test(source: &Source<'_>, tokens: &mut Tokens<'_>, depth: usize) -> Result<Expr, Fault>
-    ensures { Gives (reading.run_test source.now depth (run_inside source.now depth) tokens.old) result tokens.new }
+    ensures { Yields (reading.run_test source.now depth (run_inside source.now depth) tokens.old) result tokens.new }
 {
     let operand = chain(source, tokens, depth, Level::Concat)?;
     if tokens.sees_predicate() {
@@ -492,7 +492,7 @@ fn test(source: &Source<'_>, tokens: &mut Tokens<'_>, depth: usize) -> Result<Ex
 
 #[cycle(expr)]
 fn negation(source: &Source<'_>, tokens: &mut Tokens<'_>, depth: usize) -> Result<Expr, Fault>
-    ensures { Gives (reading.run_negation source.now depth (run_inside source.now depth) tokens.old) result tokens.new }
+    ensures { Yields (reading.run_negation source.now depth (run_inside source.now depth) tokens.old) result tokens.new }
 {
     let nots = prefixes(source, tokens, Class::Not)?;
     let expr = test(source, tokens, depth)?;

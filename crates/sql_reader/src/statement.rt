@@ -6,7 +6,7 @@ ghost use Rattle.sql_grammar.specs.Grammar as grammar;
 ghost use Rattle.sql_grammar.specs.Statements as statements;
 ghost use Rattle.sql_tree.specs.declared.tree.Stmt.{Stmt};
 ghost use Rattle.sql_tree.specs.declared.tree.Expr.{Expr};
-ghost use Rattle.sql_reader.specs.Gives.{Gives};
+ghost use Rattle.sql_reader.specs.Steps.{Yields};
 ghost use Rattle.sql_reader.specs.Answers.{IsRead, IsPlace};
 
 use crate::class::{Class, Level};
@@ -26,7 +26,7 @@ const MAX_TOKENS: usize = 1000;
 
 // An expression within the limits.
 fn expression(source: &Source<'_>, tokens: &mut Tokens<'_>) -> Result<Expr, Fault>
-    ensures { Gives (reading.run_expression source.now tokens.old) result tokens.new }
+    ensures { Yields (reading.run_expression source.now tokens.old) result tokens.new }
 {
     let rest = tokens.rest();
     let limit = MAX_TOKENS.min(rest.len());
@@ -38,7 +38,7 @@ fn expression(source: &Source<'_>, tokens: &mut Tokens<'_>) -> Result<Expr, Faul
 
 // SHOW FILES
 fn show(source: &Source<'_>, tokens: &mut Tokens<'_>) -> Result<Stmt, Fault>
-    ensures { Gives (statements.run_show source.now tokens.old) result tokens.new }
+    ensures { Yields (statements.run_show source.now tokens.old) result tokens.new }
 {
     tokens.take(Kind::Show)?;
     tokens.take(Kind::Files)?;
@@ -50,7 +50,7 @@ fn show(source: &Source<'_>, tokens: &mut Tokens<'_>) -> Result<Stmt, Fault>
 
 // DELETE
 fn delete(source: &Source<'_>, tokens: &mut Tokens<'_>) -> Result<Stmt, Fault>
-    ensures { Gives (statements.run_delete source.now tokens.old) result tokens.new }
+    ensures { Yields (statements.run_delete source.now tokens.old) result tokens.new }
 {
     tokens.take(Kind::Delete)?;
     tokens.take(Kind::From)?;
@@ -61,7 +61,7 @@ fn delete(source: &Source<'_>, tokens: &mut Tokens<'_>) -> Result<Stmt, Fault>
 }
 
 fn statement(source: &Source<'_>, tokens: &mut Tokens<'_>) -> Result<Stmt, Fault>
-    ensures { Gives (statements.run_statement source.now tokens.old) result tokens.new }
+    ensures { Yields (statements.run_statement source.now tokens.old) result tokens.new }
 {
     if tokens.sees(Kind::Show) {
         return show(source, tokens);
@@ -71,7 +71,7 @@ fn statement(source: &Source<'_>, tokens: &mut Tokens<'_>) -> Result<Stmt, Fault
 
 // A statement and its semicolon.
 fn ended(source: &Source<'_>, tokens: &mut Tokens<'_>) -> Result<Stmt, Fault>
-    ensures { Gives (statements.run_ended source.now tokens.old) result tokens.new }
+    ensures { Yields (statements.run_ended source.now tokens.old) result tokens.new }
 {
     let statement = statement(source, tokens)?;
     tokens.take(Kind::Semicolon)?;
@@ -80,7 +80,7 @@ fn ended(source: &Source<'_>, tokens: &mut Tokens<'_>) -> Result<Stmt, Fault>
 
 // The statements that stand here.
 fn statements(source: &Source<'_>, tokens: &mut Tokens<'_>) -> Result<Stmts, Fault>
-    ensures { Gives (statements.run_script source.now tokens.old) result tokens.new }
+    ensures { Yields (statements.run_script source.now tokens.old) result tokens.new }
 {
     let mut all = Items::new(source.alloc());
     'items: while tokens.sees_statement() {
@@ -91,7 +91,7 @@ fn statements(source: &Source<'_>, tokens: &mut Tokens<'_>) -> Result<Stmts, Fau
 
 // The statements of all the tokens.
 fn whole_script(source: &Source<'_>, tokens: &mut Tokens<'_>) -> Result<Stmts, Fault>
-    ensures { Gives (to_end (statements.run_script source.now tokens.old)) result tokens.new }
+    ensures { Yields (to_end (statements.run_script source.now tokens.old)) result tokens.new }
 {
     let all = statements(source, tokens)?;
     if tokens.is_empty() {
@@ -103,7 +103,7 @@ fn whole_script(source: &Source<'_>, tokens: &mut Tokens<'_>) -> Result<Stmts, F
 
 // The expression that all the tokens are.
 fn whole_expression(source: &Source<'_>, tokens: &mut Tokens<'_>) -> Result<Expr, Fault>
-    ensures { Gives (to_end (reading.run_expression source.now tokens.old)) result tokens.new }
+    ensures { Yields (to_end (reading.run_expression source.now tokens.old)) result tokens.new }
 {
     let found = expression(source, tokens)?;
     if tokens.is_empty() {

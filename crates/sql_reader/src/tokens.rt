@@ -5,7 +5,8 @@ ghost use Rattle.sql_tree.specs.Kinds.{is};
 ghost use Rattle.sql_grammar.specs.Reading as reading;
 ghost use Rattle.sql_grammar.specs.Statements.{first_statement};
 ghost use Rattle.sql_reader.specs.Classes.{is_in, operators};
-ghost use Rattle.sql_reader.specs.Gives.{Gives, place_of};
+ghost use Rattle.sql_reader.specs.Steps.{Yields};
+ghost use Rattle.sql_reader.specs.Answers.{place_of};
 
 use crate::class::{Class, Level};
 use crate::fault::Fault;
@@ -88,7 +89,7 @@ impl<'a> Tokens<'a> {
     }
 
     pub(crate) fn take(&mut self, kind: Kind) -> Result<Token, Fault>
-        ensures { Gives (run_one (is kind) self.old) result self.new }
+        ensures { Yields (run_one (is kind) self.old) result self.new }
     {
         match self.rest {
             [token, rest @ ..] if token.kind == kind => {
@@ -100,7 +101,7 @@ impl<'a> Tokens<'a> {
     }
 
     pub(crate) fn take_any(&mut self, class: Class) -> Result<Token, Fault>
-        ensures { Gives (run_one (is_in class) self.old) result self.new }
+        ensures { Yields (run_one (is_in class) self.old) result self.new }
     {
         match self.rest {
             [token, rest @ ..] if class.has(token.kind) => {
@@ -124,7 +125,7 @@ impl<'a> Tokens<'a> {
     }
 
     pub(crate) fn take_operator(&mut self, level: Level) -> Result<Token, Fault>
-        ensures { Gives (run_one (operators level) self.old) result self.new }
+        ensures { Yields (run_one (operators level) self.old) result self.new }
     {
         match level {
             Level::Or => self.take(Kind::Or),
