@@ -19,7 +19,8 @@ pub record IsSelection (blocks : List Block) (rows count : ℕ) : Type 0 where
   pub enough : rows ≤ 64 * length blocks
   pub few : 64 * length blocks < rows + 64
   pub counted : count ≡ count_of (flags_of rows (flag_at blocks))
-  pub before : (at : ℕ) → at < length blocks → (block_at blocks at).before ≡ count_of (flags_of (64 * at) (flag_at blocks))
+  pub before : (at : ℕ) → at < length blocks
+      → (block_at blocks at).before ≡ count_of (flags_of (64 * at) (flag_at blocks))
 
 abbrev pub flag_number : Bool → ℕ
 flag_number true = 1

@@ -27,7 +27,8 @@ value_or_null value_at None = Null
 value_or_null value_at (Some k) = value_at k
 
 -- what every column keeps: one value for each row that has one, a lane that serves the type, and values of the type
-pub record IsColumn {K : Type 0} (serves : DataType → Bool) (value_of : K → DataType → Value) (kind : DataType) (valid : List Bool) (kept : List K) : Type 0 where
+pub record IsColumn {K : Type 0} (serves : DataType → Bool) (value_of : K → DataType → Value) (kind : DataType)
+    (valid : List Bool) (kept : List K) : Type 0 where
   pub count : length kept ≡ count_of valid
   pub lane : serves kind ≡ true
   pub typed : All (IsNullOrOf kind) (shown (λ k. value_of k kind) valid kept)

@@ -13,7 +13,8 @@ use dm_types::{
 use std::alloc::{AllocError, Global};
 use std::marker::Model;
 
-/// A column of any type. Its lane is the one that serves the type.
+/// A column of any type: the type, and the list of its values. It is kept in the lane that serves
+/// the type, which `lane` lends to who works lane by lane.
 #[derive(Drop)]
 pub struct AnyColumn {
     column: LaneColumn,
@@ -160,7 +161,8 @@ impl AnyColumn {
     /// The rows at these places, in their order.
     pub fn gather(&self, alloc: Global, places: &PlaceList) -> Result<AnyColumn, AllocError>
         requires { All (λ place. place < length self.now.values) places.now }
-        ensures { IfOk result (λ column. column ≡ record { kind = self.now.kind; values = gathered self.now.values places.now }) }
+        ensures { IfOk result (λ column. column
+            ≡ record { kind = self.now.kind; values = gathered self.now.values places.now }) }
     {
         let column = match &self.column {
             LaneColumn::Bool(column) => LaneColumn::Bool(column.gather(alloc, places)?),
@@ -178,7 +180,8 @@ impl AnyColumn {
     /// The rows of this column, and then those of another of the same type.
     pub fn concat(&self, alloc: Global, other: &AnyColumn) -> Result<AnyColumn, AllocError>
         requires { self.now.kind ≡ other.now.kind }
-        ensures { IfOk result (λ column. column ≡ record { kind = self.now.kind; values = self.now.values ++ other.now.values }) }
+        ensures { IfOk result (λ column. column
+            ≡ record { kind = self.now.kind; values = self.now.values ++ other.now.values }) }
     {
         let column = match (&self.column, &other.column) {
             (LaneColumn::Bool(a), LaneColumn::Bool(b)) => LaneColumn::Bool(a.concat(alloc, b)?),

@@ -24,7 +24,10 @@ impl<T: Lane> Model for Column<T> {
 
     ghost Value = { Cells };
 
-    ghost view = { λ column. record { kind = column.kind; values = shown (λ k. T.value_of k column.kind) column.valid column.kept.items } };
+    ghost view = { λ column. record {
+      kind = column.kind;
+      values = shown (λ k. T.value_of k column.kind) column.valid column.kept.items;
+    } };
 
     ghost invariant = { λ column. IsColumn T.serves T.value_of column.kind column.valid column.kept.items };
 }
@@ -70,7 +73,8 @@ impl<T: Lane> Column<T> {
     pub fn get(&self, row: usize) -> Option<&T::Kept>
         requires { row < length self.now.values }
         ensures typed { IfSome (option_copied result) (λ k. IsOf self.now.kind (T.value_of k self.now.kind)) }
-        ensures value { slice_get self.now.values row ≡ Some (value_or_null (λ k. T.value_of k self.now.kind) (option_copied result)) }
+        ensures value { slice_get self.now.values row
+            ≡ Some (value_or_null (λ k. T.value_of k self.now.kind) (option_copied result)) }
     {
         if self.valid.test(row) {
             Some(&self.kept[self.valid.count_before(row)])
@@ -181,7 +185,8 @@ impl<T: Lane> Column<T> {
     /// The rows at these places, in their order.
     pub fn gather(&self, alloc: Global, places: &PlaceList) -> Result<Column<T>, AllocError>
         requires { All (λ place. place < length self.now.values) places.now }
-        ensures { IfOk result (λ column. column ≡ record { kind = self.now.kind; values = gathered self.now.values places.now }) }
+        ensures { IfOk result (λ column. column
+            ≡ record { kind = self.now.kind; values = gathered self.now.values places.now }) }
     {
         let mut column = Column::new(alloc, self.kind);
         for place in places.as_slice() {
@@ -193,7 +198,8 @@ impl<T: Lane> Column<T> {
     /// The rows of this column, and then those of another of the same type.
     pub fn concat(&self, alloc: Global, other: &Column<T>) -> Result<Column<T>, AllocError>
         requires { self.now.kind ≡ other.now.kind }
-        ensures { IfOk result (λ column. column ≡ record { kind = self.now.kind; values = self.now.values ++ other.now.values }) }
+        ensures { IfOk result (λ column. column
+            ≡ record { kind = self.now.kind; values = self.now.values ++ other.now.values }) }
     {
         let mut column = Column::new(alloc, self.kind);
         column.append(self)?;

@@ -5,6 +5,12 @@ use dm_types::{
 };
 
 /// A column in one of the eight lanes.
+///
+/// An `AnyColumn` is one of these whose lane serves its type. Callers see that as a type and a list
+/// of values, whichever lane they are kept in, and call its methods. Who works lane by lane, as an
+/// evaluator of expressions does, takes it apart by matching on `AnyColumn::lane`, and puts what was
+/// computed together by `AnyColumn::from_lane`: a match needs variants, which a value that is seen
+/// as a list has none of.
 #[derive(Clone, Drop)]
 pub enum LaneColumn {
     /// Truth values, or nulls alone where the type is that of NULL.

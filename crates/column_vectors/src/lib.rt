@@ -13,6 +13,3 @@ pub use batch::{AnyColumns, Batch};
 pub use column::Column;
 pub use lane_column::LaneColumn;
 pub use selection::Selection;
-
-#[cfg(test)]
-mod tests;

@@ -1,3 +1,6 @@
-// A module for each crate that is tested.
+// Tests of public calls, a module for each crate.
+mod columns;
 mod meta;
+mod plain;
+mod runs;
 mod thrift;

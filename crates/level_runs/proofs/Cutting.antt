@@ -1,16 +1,18 @@
 -- How numbers are cut into runs that are written.
-use Rattle.std.proofs.Common.{◌≡◌, ℕ, zero, suc, ◌+◌, ◌-◌, ◌*◌, ◌^◌, ◌<◌, ◌≤◌, List, [], ◌++◌, length, take, drop, replicate, inl, inr, ⊎_elim, refl, sym, ap, ◌∙◌, subst, append_assoc, length-append, arith}
+use Rattle.std.proofs.Common.{◌≡◌, ℕ, zero, suc, ◌+◌, ◌-◌, ◌*◌, ◌^◌, ◌<◌, ◌≤◌, List, [], ◌∷◌, ◌++◌, length, take, drop, replicate, inl, inr, ⊎_elim, refl, sym, ap, ◌∙◌, subst, append_assoc, length-append, arith}
 use Rattle.std.specs.Prelude.{slice_index, min}
 use Rattle.std.specs.List.{All}
 use Rattle.std.proofs.Math.Nat.{pow-suc, mul-le-mul_right}
 use Rattle.std.proofs.lemmas.Nat.{pow-add}
 use Rattle.std.proofs.lemmas.Bool.{cases_lt}
-use Rattle.std.proofs.lemmas.List.{append-nil, take_all, take_at, drop_at, drop_all, take-append-drop, length-drop, length-take-le, get_or-take}
+use Rattle.std.proofs.lemmas.List.{append-nil, take_all, drop_at, drop_all, take-append-drop, length-drop, length-take-le, get_or-take, get_or-append-add, length-replicate}
 use Rattle.std.proofs.lemmas.List.FromFn.{length-map-range_with_len, take-map-range_with_len, fill_by_all}
 use Rattle.std.proofs.lemmas.List.Elements.{All-drop}
-use Rattle.byteorder.specs.Endian.{little_number, little_bytes}
-use Rattle.byteorder.specs.Numbers.{little_number-reads_back, length-bytes_low_first}
-use Rattle.level_runs.specs.Answers.{AppendsChain, AppendsPacked, AppendsRun, WritesRun, AppendsRuns, filled_up}
+use Rattle.std.specs.Int.{byte_at}
+use Rattle.byteorder.specs.Endian.{little_from, little_number, little_bytes}
+use Rattle.byteorder.specs.Numbers.{little_from-take, little_number-reads_back}
+use Rattle.level_runs.specs.Answers.{AppendsRuns}
+use Rattle.level_runs.specs.Steps.{AppendsChain, AppendsPacked, AppendsRun, WritesRun, filled_up}
 use Rattle.level_runs.specs.Bits.{packed_numbers}
 use Rattle.level_runs.specs.Runs.{value_size, MeansRuns}
 use Rattle.level_runs.proofs.Filling.{chain_varint, pow_bound}
@@ -53,13 +55,9 @@ value_fits width number narrow =
     let below = pow_bound number width (8 * value_size width) narrow room in
     omega arith
 
-pub repeated_written : (width times number : ℕ) (old now new value : List ℕ) → width ≤ 32 → 2 * times < 2 ^ 64 → number < 2 ^ width → AppendsChain old now (2 * times) → value ≡ little_bytes (value_size width) number → new ≡ now ++ value
-    → AppendsRun width 14 (replicate times number) old new
-repeated_written width times number old now new value most small narrow header is joined =
-    let size : length value ≡ value_size width = ap length is ∙ length-bytes_low_first 0 (value_size width) number in
-    let few : value_size width ≤ 4 = omega arith in
-    let back : little_number (value_size width) value ≡ number =
-    ap (little_number (value_size width)) (is ∙ sym (append-nil (little_bytes (value_size width) number))) ∙ little_number-reads_back (value_size width) number [] (value_fits width number narrow) in
+pub repeated_written : (width times number : ℕ) (old now new value : List ℕ) → 2 * times < 2 ^ 64 → number < 2 ^ width → AppendsChain old now (2 * times) → length value ≡ value_size width → little_number (value_size width) value ≡ number
+    → new ≡ now ++ value → AppendsRun width (value_size width + 10) (replicate times number) old new
+repeated_written width times number old now new value small narrow header size back joined =
     let varint = chain_varint old now (2 * times) small header in
     record {
       written = header.chain ++ value;
@@ -77,13 +75,33 @@ repeated_written width times number old now new value most small narrow header i
       joined = joined ∙ ap (λ bs. bs ++ value) header.joined ∙ append_assoc old header.chain value;
     }
 
-pub value_written : (size number : ℕ) (buf behind : List ℕ) → buf ≡ little_bytes size number ++ behind → take size buf ≡ little_bytes size number
-value_written size number buf behind is = ap (take size) is ∙ take_at (little_bytes size number) behind size (length-bytes_low_first 0 size number)
+-- zeros count nothing
+zeros_count : (at n : ℕ) (xs : List ℕ) → ((k : ℕ) → slice_index xs (at + k) ≡ 0) → little_from at n xs ≡ 0
+zeros_count at zero xs zeros = refl
+zeros_count at (suc n) xs zeros =
+    let first : slice_index xs at ≡ 0 = let at_first : at + 0 ≡ at = omega arith in ap (slice_index xs) (sym at_first) ∙ zeros 0 in
+    let others = zeros_count (suc at) n xs (λ k. let next : suc at + k ≡ at + suc k = omega arith in ap (slice_index xs) next ∙ zeros (suc k)) in
+    rw (first, others) refl
 
-pub no_value : (size number : ℕ) → size ≤ 0 → [] ≡ little_bytes size number
-no_value size number none =
-    let zero_size : size ≡ 0 = omega arith in
-    rw zero_size refl
+-- four bytes of a number and zeros behind them, read in so many bytes as it fits
+wide_back : (size number : ℕ) (zeros : List ℕ) → ((k : ℕ) → slice_index zeros k ≡ 0) → number < 256 ^ 4 → number < 256 ^ size → little_number size (little_bytes 4 number ++ zeros) ≡ number
+wide_back zero number zeros none small fits = omega arith
+wide_back (suc zero) number zeros none small fits = little_number-reads_back 1 number (byte_at 1 number ∷ byte_at 2 number ∷ byte_at 3 number ∷ zeros) fits
+wide_back (suc (suc zero)) number zeros none small fits = little_number-reads_back 2 number (byte_at 2 number ∷ byte_at 3 number ∷ zeros) fits
+wide_back (suc (suc (suc zero))) number zeros none small fits = little_number-reads_back 3 number (byte_at 3 number ∷ zeros) fits
+wide_back (suc (suc (suc (suc size)))) number zeros none small fits =
+    let behind : little_from 4 size (little_bytes 4 number ++ zeros) ≡ 0 = zeros_count 4 size (little_bytes 4 number ++ zeros) (λ k. get_or-append-add (little_bytes 4 number) zeros k 0 ∙ none k) in
+    ap (λ n. byte_at 0 number + 256 * (byte_at 1 number + 256 * (byte_at 2 number + 256 * (byte_at 3 number + 256 * n)))) behind ∙ little_number-reads_back 4 number zeros small
+
+all_zeros : (n k : ℕ) → slice_index (replicate n 0) k ≡ 0
+all_zeros zero k = refl
+all_zeros (suc n) zero = refl
+all_zeros (suc n) (suc k) = all_zeros n k
+
+-- the front of a buffer that held zeros, once a number of four bytes is written into it
+pub value_written : (size number : ℕ) (buf : List ℕ) → number < 2 ^ 32 → number < 256 ^ size → buf ≡ little_bytes 4 number ++ replicate 28 0 → little_number size (take size buf) ≡ number
+value_written size number buf small fits is =
+    little_from-take 0 size size buf (omega arith) ∙ ap (little_number size) is ∙ wide_back size number (replicate 28 0) (all_zeros 28) (omega arith) fits
 
 -- ---- the numbers that a run takes
 
@@ -134,6 +152,31 @@ packed_taken width groups taken numbers rest old new some within any is left run
       left = omega arith;
       shorter = omega arith;
       size = packed_size width groups taken (length run.written) (length numbers) (length rest) some within is size any run.size;
+    }
+
+-- the bytes of a repeated number, for each number that it takes
+repeated_size : (width times size total left : ℕ) → 0 < times → total ≡ times + left → size ≤ value_size width + 10 → size + (width + 10) * left ≤ (width + 10) * total
+repeated_size width times size total left some sum most =
+    let parts : (width + 10) * total ≡ (width + 10) * times + (width + 10) * left = ap (λ n. (width + 10) * n) sum ∙ omega arith in
+    let one : 1 * (width + 10) ≤ times * (width + 10) = mul-le-mul_right (width + 10) (omega arith) in
+    let turned : (width + 10) * times ≡ times * (width + 10) = omega arith in
+    let narrow : value_size width ≤ width = omega arith in
+    omega arith
+
+pub repeated_taken : (width times : ℕ) (numbers rest old new : List ℕ) → 0 < times → times ≤ length numbers → take times numbers ≡ replicate times (slice_index numbers 0) → rest ≡ drop times numbers
+    → AppendsRun width (value_size width + 10) (replicate times (slice_index numbers 0)) old new → WritesRun width numbers rest old new
+repeated_taken width times numbers rest old new some within equal is run =
+    let count : length (replicate times (slice_index numbers 0)) ≡ times = length-replicate times (slice_index numbers 0) in
+    let size : length rest ≡ length numbers - times = ap length is ∙ length-drop times numbers in
+    record {
+      run = replicate times (slice_index numbers 0);
+      written = run.written;
+      is = run.is;
+      joined = run.joined;
+      first = sym (ap (λ ns. ns ++ rest) (take_all (length numbers) (replicate times (slice_index numbers 0)) (omega arith) ∙ sym equal) ∙ ap (λ ns. take times numbers ++ ns) is ∙ take-append-drop times numbers);
+      left = omega arith;
+      shorter = omega arith;
+      size = repeated_size width times (length run.written) (length numbers) (length rest) some (omega arith) run.size;
     }
 
 -- ---- all numbers

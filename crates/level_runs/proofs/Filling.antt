@@ -9,7 +9,7 @@ use Rattle.std.proofs.lemmas.List.{append-nil, drop-drop, drop_at, drop_more, ge
 use Rattle.std.proofs.lemmas.List.Concat.{flat_map-append}
 use Rattle.std.proofs.lemmas.List.Elements.{All-map}
 use Rattle.std.proofs.lemmas.List.FromFn.{map-range_with_len_more, length-map-range_with_len, fill_by_all}
-use Rattle.level_runs.specs.Answers.{AppendsChain, PacksBits, AppendsPacked, filled_up}
+use Rattle.level_runs.specs.Steps.{AppendsChain, PacksBits, AppendsPacked, filled_up}
 use Rattle.level_runs.specs.Bits.{bits, byte_bits, packed_number, packed_numbers}
 use Rattle.level_runs.specs.Varint.{IsVarint}
 use Rattle.level_runs.proofs.Chains.{longer}

@@ -4,7 +4,7 @@ use Rattle.std.specs.List.{AllByRecursion}
 use Rattle.std.proofs.lemmas.Bool.{eqb-true, eqb-false}
 use Rattle.dm_types.specs.Then.{◌>>=◌}
 use Rattle.level_runs.specs.Reading.{Front, run_at, with_numbers, runs_at}
-use Rattle.level_runs.specs.Runs.{IsRun, Runs, bytes_of, numbers_of, MeansRuns}
+use Rattle.level_runs.specs.Runs.{IsRun, RunPairs, bytes_of, numbers_of, MeansRuns}
 use Rattle.level_runs.proofs.Joining.{run_found, run_again}
 use Rattle.level_runs.proofs.Turns.{runs_none, runs_next}
 
@@ -32,7 +32,7 @@ means_none width count none = record {
   first = rw none refl;
 }
 
-more_needed : (count k : ℕ) (spelled numbers : List ℕ) (runs : Runs) → 0 < count → ((j : ℕ) → j < length runs → length (numbers_of (take j runs)) < count - length numbers) → k < suc (length runs)
+more_needed : (count k : ℕ) (spelled numbers : List ℕ) (runs : RunPairs) → 0 < count → ((j : ℕ) → j < length runs → length (numbers_of (take j runs)) < count - length numbers) → k < suc (length runs)
     → length (numbers_of (take k ((spelled, numbers) ∷ runs))) < count
 more_needed count zero spelled numbers runs some needed below = some
 more_needed count (suc k) spelled numbers runs some needed below =
@@ -105,7 +105,7 @@ runs_found (suc most) width count bytes found is =
 
 -- ---- what is spelled so is found
 
-again_by : (runs : Runs) (most width count : ℕ) (rest : List ℕ) → AllByRecursion (λ (run : List ℕ × List ℕ). IsRun width run.0 run.1) runs → count ≤ length (numbers_of runs)
+again_by : (runs : RunPairs) (most width count : ℕ) (rest : List ℕ) → AllByRecursion (λ (run : List ℕ × List ℕ). IsRun width run.0 run.1) runs → count ≤ length (numbers_of runs)
     → ((k : ℕ) → k < length runs → length (numbers_of (take k runs)) < count) → length (bytes_of runs ++ rest) ≤ most
     → runs_at most width count (bytes_of runs ++ rest) ≡ Some (take count (numbers_of runs), rest)
 again_by [] most width count rest each enough needed held =

@@ -6,7 +6,7 @@ use Rattle.std.proofs.lemmas.Bool.{cases_lt, le-ltb, lt-ltb}
 use Rattle.std.proofs.lemmas.List.{take_all, take-replicate, length-replicate}
 use Rattle.std.proofs.lemmas.List.FromFn.{take-map-range_with_len, length-map-range_with_len}
 use Rattle.byteorder.specs.Endian.{little_number}
-use Rattle.level_runs.specs.Answers.{joined}
+use Rattle.level_runs.specs.Steps.{joined}
 use Rattle.level_runs.specs.Bits.{packed_number, packed_numbers}
 use Rattle.level_runs.specs.Reading.{packed_at, repeated_at}
 use Rattle.level_runs.specs.Runs.{value_size}

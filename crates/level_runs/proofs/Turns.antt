@@ -4,7 +4,8 @@ use Rattle.std.specs.Prelude.{option_map, min}
 use Rattle.std.proofs.lemmas.Bool.{ne_eqb, lt-ltb, le-ltb}
 use Rattle.std.proofs.lemmas.List.{append-nil, length-take, nil_from_length}
 use Rattle.dm_types.specs.Then.{◌>>=◌}
-use Rattle.level_runs.specs.Answers.{joined, TakesRun, ReadsRuns}
+use Rattle.level_runs.specs.Answers.{ReadsRuns}
+use Rattle.level_runs.specs.Steps.{joined, TakesRun}
 use Rattle.level_runs.specs.Reading.{Front, varint_at, run_at, with_numbers, runs_at, runs_of}
 use Rattle.level_runs.specs.declared.fault.RunFault.{RunFault}
 use Rattle.level_runs.specs.declared.fault.RunFault.TheVariants as fault

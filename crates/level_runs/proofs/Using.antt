@@ -8,7 +8,7 @@ use Rattle.std.proofs.lemmas.Nat.{pow_pos}
 use Rattle.std.proofs.Math.Nat.{pow-suc}
 use Rattle.level_runs.specs.Bits.{bits, bits_number, byte_bits, packed_number}
 use Rattle.level_runs.specs.Reading.{Front, with_used, runs_at, runs_of}
-use Rattle.level_runs.specs.Runs.{IsRun, Runs, numbers_of, MeansRuns}
+use Rattle.level_runs.specs.Runs.{IsRun, RunPairs, numbers_of, MeansRuns}
 use Rattle.level_runs.proofs.Spelling.{runs_found, runs_again}
 use Rattle.level_runs.proofs.Turns.{runs_given}
 
@@ -135,7 +135,7 @@ run_fits width bytes numbers (inl is) =
     subst (AreNarrow width) (sym is.means) (All-map (λ number. number < 2 ^ width) (packed_number width is.packed) (range_with_len 0 (8 * is.groups)) (λ k d below. packed_fits width is.packed _))
 run_fits width bytes numbers (inr is) = subst (AreNarrow width) (sym is.means) (All-replicate (λ number. number < 2 ^ width) is.times _ is.fits)
 
-runs_fit : (width : ℕ) (runs : Runs) → AllByRecursion (λ (run : List ℕ × List ℕ). IsRun width run.0 run.1) runs → AreNarrow width (numbers_of runs)
+runs_fit : (width : ℕ) (runs : RunPairs) → AllByRecursion (λ (run : List ℕ × List ℕ). IsRun width run.0 run.1) runs → AreNarrow width (numbers_of runs)
 runs_fit width [] each = All-nil (λ number. number < 2 ^ width)
 runs_fit width (run ∷ runs) each = All-append (λ number. number < 2 ^ width) run.1 (numbers_of runs) (run_fits width run.0 run.1 each.0) (runs_fit width runs each.1)
 

@@ -2,4 +2,5 @@ pub mod Answers
 pub mod Bits
 pub mod Reading
 pub mod Runs
+pub mod Steps
 pub mod Varint

@@ -38,7 +38,8 @@ repeated width times number = if nat_lt number (2 ^ width) then Some (replicate 
 unfoldable pub repeated_at : ℕ → ℕ → List ℕ → Front (List ℕ)
 repeated_at width times bytes =
     if nat_lt (length bytes) (value_size width) then None
-    else option_map (λ numbers. (numbers, drop (value_size width) bytes)) (repeated width times (little_number (value_size width) (take (value_size width) bytes)))
+    else option_map (λ numbers. (numbers, drop (value_size width) bytes))
+    (repeated width times (little_number (value_size width) (take (value_size width) bytes)))
 
 -- a run behind its header: odd for packed groups, even for a repeated number
 abbrev pub body_at : ℕ → ℕ → List ℕ → Front (List ℕ)
@@ -57,7 +58,8 @@ unfoldable pub runs_at : ℕ → ℕ → ℕ → List ℕ → Front (List ℕ)
 runs_at zero width count bytes = if count == 0 then Some ([], bytes) else None
 runs_at (suc most) width count bytes =
     if count == 0 then Some ([], bytes)
-    else (run_at width bytes >>= λ run. with_numbers (take count run.0) (runs_at most width (count - length run.0) run.1))
+    else (run_at width bytes >>= λ run.
+    with_numbers (take count run.0) (runs_at most width (count - length run.0) run.1))
 
 -- numbers, and how many bytes are before those behind them
 abbrev pub with_used : List ℕ → Front (List ℕ) → Option (List ℕ × ℕ)

@@ -34,18 +34,18 @@ abbrev pub IsRun : ℕ → List ℕ → List ℕ → Type 0
 IsRun width bytes numbers = IsPackedRun width bytes numbers ⊎ IsRepeatedRun width bytes numbers
 
 -- runs as pairs of their bytes and their numbers
-abbrev pub Runs : Type 0
-Runs = List (List ℕ × List ℕ)
+abbrev pub RunPairs : Type 0
+RunPairs = List (List ℕ × List ℕ)
 
-abbrev pub bytes_of : Runs → List ℕ
+abbrev pub bytes_of : RunPairs → List ℕ
 bytes_of runs = flat_map (λ run. run.0) runs
 
-abbrev pub numbers_of : Runs → List ℕ
+abbrev pub numbers_of : RunPairs → List ℕ
 numbers_of runs = flat_map (λ run. run.1) runs
 
 -- the bytes are runs one after the other, their numbers are at least `count`, no run begins once `count` numbers are there, and the list is the first `count` of them
 pub record MeansRuns (width count : ℕ) (bytes numbers : List ℕ) : Type 0 where
-  pub runs : Runs
+  pub runs : RunPairs
   pub each : AllByRecursion (λ run. IsRun width run.0 run.1) runs
   pub joined : bytes ≡ bytes_of runs
   pub enough : count ≤ length (numbers_of runs)

@@ -13,6 +13,3 @@ pub use fault::RunFault;
 pub use laws::{no_runs, one_meaning, runs_again, runs_fit, runs_mean};
 pub use reading::read_runs;
 pub use writing::write_runs;
-
-#[cfg(test)]
-mod tests;

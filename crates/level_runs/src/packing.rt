@@ -1,6 +1,6 @@
 // Numbers that are packed into bits.
 ghost use Rattle.std.specs.Prelude.{◌+◌, ◌*◌, ◌^◌, ◌<◌, ◌≤◌, ◌++◌, length, OnOk, All};
-ghost use Rattle.level_runs.specs.Answers.{PacksBits, AppendsPacked, filled_up};
+ghost use Rattle.level_runs.specs.Steps.{PacksBits, AppendsPacked, filled_up};
 ghost use Rattle.level_runs.specs.Bits.{bits};
 
 use dm_types::Bytes;

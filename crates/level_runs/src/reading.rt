@@ -1,7 +1,8 @@
 // Runs that are read.
 ghost use Rattle.std.specs.Prelude.{◌≡◌, ◌+◌, ◌^◌, ◌<◌, ◌≤◌, length};
 ghost use Rattle.byteorder.specs.Endian.{little_number};
-ghost use Rattle.level_runs.specs.Answers.{ReadsRuns, TakesRun};
+ghost use Rattle.level_runs.specs.Answers.{ReadsRuns};
+ghost use Rattle.level_runs.specs.Steps.{TakesRun};
 ghost use Rattle.level_runs.specs.Reading.{packed_at, repeated_at, run_at, runs_of};
 
 use crate::fault::RunFault;

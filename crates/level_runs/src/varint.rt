@@ -1,6 +1,6 @@
 // Numbers in ULEB128.
 ghost use Rattle.std.specs.Prelude.{◌≡◌, option_map, option_and_then, OnOk};
-ghost use Rattle.level_runs.specs.Answers.{AppendsChain};
+ghost use Rattle.level_runs.specs.Steps.{AppendsChain};
 ghost use Rattle.level_runs.specs.Reading.{chain_at, unless_large, varint_at};
 
 use dm_types::Bytes;

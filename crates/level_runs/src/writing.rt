@@ -1,6 +1,8 @@
 // Runs that are written.
 ghost use Rattle.std.specs.Prelude.{◌≡◌, ◌+◌, ◌*◌, ◌^◌, ◌<◌, ◌≤◌, length, take, replicate, slice_index, IfOk, OnOk, OnErr, All};
-ghost use Rattle.level_runs.specs.Answers.{AppendsRun, AppendsRuns, WritesRun, filled_up};
+ghost use Rattle.level_runs.specs.Answers.{AppendsRuns};
+ghost use Rattle.level_runs.specs.Steps.{AppendsRun, WritesRun, filled_up};
+ghost use Rattle.level_runs.specs.Runs.{value_size};
 
 use crate::packing::pack;
 use crate::varint::push_varint;
@@ -8,12 +10,16 @@ use byteorder::{ByteOrder, LittleEndian};
 use dm_types::{Bytes, Items, NumberList};
 use std::alloc::{AllocError, Global};
 
+/// The greatest width of numbers that are packed.
+const MOST_BITS: u32 = 32;
+
 /// The numbers of a group. So many equal numbers are worth a repeated run.
 const GROUP: usize = 8;
 
 /// How many numbers at the front are equal.
 fn front_repeats(numbers: &[u32]) -> usize
     requires { 0 < length numbers.now }
+    ensures some { 0 < result }
     ensures within { result ≤ length numbers.now }
     ensures equal { take result numbers.now ≡ replicate result (slice_index numbers.now 0) }
 {
@@ -44,21 +50,19 @@ fn packed_groups(numbers: &[u32]) -> usize
     groups
 }
 
-/// Adds a run of a repeated number.
+/// Adds a run of a repeated number. Bytes of the width that a number doesn't reach are zeros.
 fn push_repeated(number: u32, times: usize, width: u32, out: &mut Bytes) -> Result<(), AllocError>
-    requires narrow { width ≤ 32 }
+    requires width { width < 256 }
     requires fits { number < 2 ^ width }
     requires few { times < 2 ^ 62 }
-    ensures { OnOk result (AppendsRun width 14 (replicate times number) out.old out.new) }
+    ensures { OnOk result (AppendsRun width (value_size width + 10) (replicate times number) out.old
+        out.new) }
 {
     push_varint(2 * times as u64, out)?;
     let size = (width as usize + 7) / 8;
-    if size > 0 {
-        let mut value = [0u8; 4];
-        LittleEndian::write_uint(&mut value, u64::from(number), size);
-        out.extend_from_slice(&value[..size])?;
-    }
-    Ok(())
+    let mut value = [0u8; 32];
+    LittleEndian::write_u32(&mut value, number);
+    out.extend_from_slice(&value[..size])
 }
 
 /// Adds a run of packed groups, with zeros where there are no numbers any more.
@@ -80,13 +84,13 @@ fn push_packed(
 
 /// Adds a run of the first numbers, and gives those that are left.
 fn push_run<'a>(numbers: &'a [u32], width: u32, out: &mut Bytes) -> Result<&'a [u32], AllocError>
-    requires narrow { width ≤ 32 }
+    requires width { width < 256 }
     requires fits { All (λ number. number < 2 ^ width) numbers.now }
     requires some { 0 < length numbers.now }
     ensures { IfOk result (λ rest. WritesRun width numbers.now rest.now out.old out.new) }
 {
     let repeats = front_repeats(numbers);
-    if repeats >= GROUP {
+    if repeats >= GROUP || width > MOST_BITS {
         push_repeated(numbers[0], repeats, width, out)?;
         return Ok(&numbers[repeats..]);
     }
@@ -97,7 +101,8 @@ fn push_run<'a>(numbers: &'a [u32], width: u32, out: &mut Bytes) -> Result<&'a [
 }
 
 /// Adds numbers of `width` bits as runs: a repeated run where eight or more numbers are equal, and
-/// packed groups between.
+/// packed groups between. Of more than 32 bits, which `read_runs` doesn't read, each run is a
+/// repeated one.
 ///
 /// The runs mean the numbers (Encodings.md, "Run Length Encoding / Bit-Packing Hybrid"), and take at
 /// most `width` + 10 bytes for each number. For no numbers nothing is added. After want of memory
@@ -108,8 +113,7 @@ pub fn write_runs(
     width: u8,
     out: &mut Bytes,
 ) -> Result<(), AllocError>
-    requires narrow { width ≤ 32 }
-    requires fits { All (λ number. number < 2 ^ width) numbers.now }
+    requires { All (λ number. number < 2 ^ width) numbers.now }
     ensures ok { OnOk result (AppendsRuns width numbers.now out.old out.new) }
     ensures err { OnErr result (out.new ≡ out.old) }
 {

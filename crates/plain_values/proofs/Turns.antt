@@ -4,7 +4,8 @@ use Rattle.std.specs.Prelude.{option_map}
 use Rattle.std.proofs.lemmas.List.{append-nil, take-take, take_at, take_all}
 use Rattle.dm_types.specs.Then.{◌>>=◌}
 use Rattle.std.specs.Borrow.{Bor}
-use Rattle.plain_values.specs.Answers.{ReadsPlain, ReadsLent, Takes, BeginsWith, lent_values}
+use Rattle.plain_values.specs.Answers.{ReadsPlain, ReadsLent, BeginsWith, lent_values}
+use Rattle.plain_values.specs.Steps.{GivesFront}
 use Rattle.plain_values.specs.Meaning.{Wrong, extra, Front, with_value, values_at, whole_at, whole}
 use Rattle.plain_values.specs.declared.fault.PlainFault.{PlainFault}
 use Rattle.plain_values.specs.declared.fault.PlainFault.TheVariants as fault
@@ -43,7 +44,7 @@ module _ {V : Type 0} (one : List ℕ → Front V) where
       ap (with_values old) (next (count - place) bytes (omega arith) ∙ ap (λ (known : Front V). known >>= λ first. with_value first.0 (values_at one (count - place - 1) first.1)) is)
 
   pub fault_handed : (fault : PlainFault) {X : Type 0} (view : X → V × List ℕ) (old : List V) (count place : ℕ) (bytes now : List ℕ) → place < count
-      → values_at one count bytes ≡ with_values old (values_at one (count - place) now) → Takes view (one now) (Err fault) → ReadsPlain (whole (values_at one count bytes)) (Err fault)
+      → values_at one count bytes ≡ with_values old (values_at one (count - place) now) → GivesFront view (one now) (Err fault) → ReadsPlain (whole (values_at one count bytes)) (Err fault)
   fault_handed fault.Short view old count place bytes now below left missing = ap whole (left ∙ value_missing old count place now below missing)
   fault_handed fault.Extra view old count place bytes now below left never = absurd never
   fault_handed fault.Memory view old count place bytes now below left memory = tt

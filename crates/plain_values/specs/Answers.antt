@@ -1,5 +1,5 @@
 -- What a reader of values returned, beside what its bytes say, and what a writer added.
-use Rattle.std.specs.Prelude.{◌≡◌, ⊤, ℕ, List, length, take, map, Option, Some, None, Result, Ok, Err}
+use Rattle.std.specs.Prelude.{◌≡◌, ⊤, ℕ, List, length, take, map, Result, Ok, Err}
 use Rattle.std.specs.Borrow.{Bor}
 use Rattle.plain_values.specs.Meaning.{Wrong, short, extra}
 use Rattle.plain_values.specs.declared.fault.PlainFault.{PlainFault}
@@ -22,13 +22,6 @@ ReadsLent known (Ok lent) = known ≡ Ok (lent_values lent)
 ReadsLent known (Err fault.Short) = known ≡ Err short
 ReadsLent known (Err fault.Extra) = known ≡ Err extra
 ReadsLent known (Err fault.Memory) = ⊤
-
--- the value at the front, seen by `view`, or Short where there is none
-abbrev pub Takes : {X A : Type 0} → (X → A) → Option A → Result X PlainFault → Type 0
-Takes view known (Ok found) = known ≡ Some (view found)
-Takes view known (Err fault.Short) = known ≡ None
-Takes view known (Err fault.Extra) = ⊥
-Takes view known (Err fault.Memory) = ⊤
 
 -- the old list is the front of the new one
 abbrev pub BeginsWith : List ℕ → List ℕ → Type 0

@@ -1,7 +1,9 @@
 pub mod Answers
-pub mod FlagLaws
+pub mod Fixed
 pub mod Flags
-pub mod FormLaws
+pub mod FlagsRead
 pub mod Forms
-pub mod InTurn
+pub mod FormsRead
 pub mod Meaning
+pub mod Steps
+pub mod ValuesRead

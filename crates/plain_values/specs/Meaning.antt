@@ -58,7 +58,7 @@ pub record HasMore {A : Type 0} (count_of : A → ℕ) (means : A → List ℕ �
   pub left : rest ≢ []
 
 -- of bytes that were to be `count` values: they are these; or more than these; or no front of them is so many values
-abbrev pub Tells : {A : Type 0} → (A → ℕ) → (A → List ℕ → Type 0) → ℕ → List ℕ → Result A Wrong → Type 0
-Tells count_of means count bytes (Ok values) = (count_of values ≡ count) × means values bytes
-Tells count_of means count bytes (Err extra) = HasMore count_of means count bytes
-Tells {A} count_of means count bytes (Err short) = (values : A) (front rest : List ℕ) → count_of values ≡ count → means values front → bytes ≡ front ++ rest → ⊥
+abbrev pub Judges : {A : Type 0} → (A → ℕ) → (A → List ℕ → Type 0) → ℕ → List ℕ → Result A Wrong → Type 0
+Judges count_of means count bytes (Ok values) = (count_of values ≡ count) × means values bytes
+Judges count_of means count bytes (Err extra) = HasMore count_of means count bytes
+Judges {A} count_of means count bytes (Err short) = (values : A) (front rest : List ℕ) → count_of values ≡ count → means values front → bytes ≡ front ++ rest → ⊥

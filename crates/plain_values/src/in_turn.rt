@@ -1,9 +1,11 @@
 // Physical types whose values stand one after the other.
 ghost use Rattle.std.specs.Prelude.{◌≡◌, ◌++◌, ℕ, List, length, OnOk, OnErr, All};
 ghost use Rattle.std.specs.List.{flat_map};
-ghost use Rattle.plain_values.specs.Answers.{BeginsWith, ReadsPlain, Takes};
-ghost use Rattle.plain_values.specs.InTurn.{IsRead, in_turn_tells, in_turn_again};
+ghost use Rattle.plain_values.specs.Answers.{BeginsWith, ReadsPlain};
+ghost use Rattle.plain_values.specs.Steps.{GivesFront};
+ghost use Rattle.plain_values.specs.ValuesRead.{in_turn_judges, in_turn_again};
 ghost use Rattle.plain_values.specs.Meaning.{Front, StandInTurn, values_at, whole};
+ghost use Rattle.plain_values.specs.Steps.{IsReaderOf};
 
 use crate::fault::PlainFault;
 use crate::plain::Plain;
@@ -36,7 +38,7 @@ pub trait InTurn {
         bytes: &'a [u8],
         length: usize,
     ) -> Result<(Self::Value, &'a [u8]), PlainFault>
-        ensures { Takes (λ found. (found.0, found.1.now)) (value_at length bytes.now) result };
+        ensures { GivesFront (λ found. (found.0, found.1.now)) (value_at length bytes.now) result };
 
     /// Adds the bytes of a value.
     fn push(value: &Self::Value, out: &mut Bytes) -> Result<(), AllocError>
@@ -46,7 +48,7 @@ pub trait InTurn {
         ensures err { OnErr result (BeginsWith out.old out.new) };
 
     // A law: what is read of a value is what its bytes are.
-    ghost is_read: { (length : ℕ) → IsRead (value_at length) (is length) spelled };
+    ghost is_reader: { (length : ℕ) → IsReaderOf (value_at length) (is length) spelled };
 }
 
 fn read_values<P: InTurn>(
@@ -98,9 +100,11 @@ impl<P: InTurn> Plain for P {
 
     ghost spelling = { λ values. flat_map P.spelled values };
 
-    ghost tells = { λ length count bytes are. in_turn_tells (P.value_at length) (P.is length) P.spelled (P.is_read length) count bytes are };
+    ghost judges = { λ length count bytes are.
+        in_turn_judges (P.value_at length) (P.is length) P.spelled (P.is_reader length) count bytes are };
 
-    ghost again = { λ length values bytes rest means. in_turn_again (P.value_at length) (P.is length) P.spelled (P.is_read length) values bytes rest means };
+    ghost again = { λ length values bytes rest means.
+        in_turn_again (P.value_at length) (P.is length) P.spelled (P.is_reader length) values bytes rest means };
 
     fn read(
         alloc: Global,

@@ -2,6 +2,7 @@
 #![tactic(auto)]
 
 mod fault;
+mod fixed;
 mod in_turn;
 mod laws;
 mod lent;
@@ -10,13 +11,11 @@ mod plain;
 mod truth;
 
 pub use fault::PlainFault;
-pub use laws::{plain_again, plain_tells};
-pub use lent::read_arrays;
+pub use fixed::{FixedArrays, read_fixed};
+pub use laws::{plain_again, plain_judges};
+pub use lent::{read_arrays, write_arrays};
 pub use physical::{
     PlainByteArray, PlainDouble, PlainFixed, PlainFloat, PlainInt32, PlainInt64, PlainInt96,
 };
 pub use plain::{Plain, read_plain, write_plain};
 pub use truth::PlainBoolean;
-
-#[cfg(test)]
-mod tests;

@@ -1,13 +1,13 @@
 // The physical types whose values stand one after the other.
 ghost use Rattle.std.specs.Prelude.{◌≡◌, ◌<◌, ◌^◌, ⊤, List, length};
 ghost use Rattle.plain_values.specs.Forms.{IsInt32, IsInt64, IsArray, HasSize, int32_bytes, int64_bytes, array_bytes, own_bytes, int32_at, int64_at, array_at};
-ghost use Rattle.plain_values.specs.FormLaws.{int32_read, int64_read, array_read, own_read};
+ghost use Rattle.plain_values.specs.FormsRead.{int32_read, int64_read, array_read, own_read};
 ghost use Rattle.plain_values.specs.Meaning.{bytes_at};
-ghost use Rattle.plain_values.specs.Answers.{Takes};
+ghost use Rattle.plain_values.specs.Steps.{GivesFront};
 
 use crate::fault::PlainFault;
 use crate::in_turn::InTurn;
-use crate::lent::{split, split_array};
+use crate::lent::{push_array, split, split_array};
 use byteorder::{ByteOrder, LittleEndian};
 use dm_types::{Bytes, Items};
 use std::alloc::{AllocError, Global};
@@ -46,7 +46,7 @@ impl InTurn for PlainInt32 {
 
     ghost can_push = { λ value. ⊤ };
 
-    ghost is_read = { λ size. int32_read };
+    ghost is_reader = { λ size. int32_read };
 
     fn take<'a>(
         _alloc: Global,
@@ -77,7 +77,7 @@ impl InTurn for PlainInt64 {
 
     ghost can_push = { λ value. ⊤ };
 
-    ghost is_read = { λ size. int64_read };
+    ghost is_reader = { λ size. int64_read };
 
     fn take<'a>(
         _alloc: Global,
@@ -108,7 +108,7 @@ impl InTurn for PlainInt96 {
 
     ghost can_push = { λ value. ⊤ };
 
-    ghost is_read = { λ size. own_read 12 };
+    ghost is_reader = { λ size. own_read 12 };
 
     fn take<'a>(
         _alloc: Global,
@@ -139,7 +139,7 @@ impl InTurn for PlainFloat {
 
     ghost can_push = { λ value. ⊤ };
 
-    ghost is_read = { λ size. own_read 4 };
+    ghost is_reader = { λ size. own_read 4 };
 
     fn take<'a>(
         _alloc: Global,
@@ -170,7 +170,7 @@ impl InTurn for PlainDouble {
 
     ghost can_push = { λ value. ⊤ };
 
-    ghost is_read = { λ size. own_read 8 };
+    ghost is_reader = { λ size. own_read 8 };
 
     fn take<'a>(
         _alloc: Global,
@@ -201,7 +201,7 @@ impl InTurn for PlainByteArray {
 
     ghost can_push = { λ value. IsArray value };
 
-    ghost is_read = { λ size. array_read };
+    ghost is_reader = { λ size. array_read };
 
     fn take<'a>(
         alloc: Global,
@@ -213,10 +213,7 @@ impl InTurn for PlainByteArray {
     }
 
     fn push(value: &Bytes, out: &mut Bytes) -> Result<(), AllocError> {
-        let mut head = [0u8; 4];
-        LittleEndian::write_u32(&mut head, value.len() as u32);
-        out.extend_from_slice(&head)?;
-        out.extend_from_slice(value.as_slice())
+        push_array(value.as_slice(), out)
     }
 }
 
@@ -233,7 +230,7 @@ impl InTurn for PlainFixed {
 
     ghost can_push = { λ value. ⊤ };
 
-    ghost is_read = { λ size. own_read size };
+    ghost is_reader = { λ size. own_read size };
 
     fn take<'a>(
         alloc: Global,

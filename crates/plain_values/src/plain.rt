@@ -1,7 +1,7 @@
 // Reading and writing over the physical types.
 ghost use Rattle.std.specs.Prelude.{◌≡◌, ◌++◌, ℕ, List, Result, OnOk, OnErr, take};
 ghost use Rattle.plain_values.specs.Answers.{BeginsWith, ReadsPlain};
-ghost use Rattle.plain_values.specs.Meaning.{AreBytes, Tells, Wrong, whole_at};
+ghost use Rattle.plain_values.specs.Meaning.{AreBytes, Judges, Wrong, whole_at};
 
 use crate::fault::PlainFault;
 use dm_types::{Bytes, Items};
@@ -49,10 +49,12 @@ pub trait Plain {
         ensures err { OnErr result (BeginsWith out.old out.new) };
 
     // A law: what an answer says of the bytes.
-    ghost tells: { (length count : ℕ) (bytes : List ℕ) → AreBytes bytes → Tells count_of (means length) count bytes (plain_of length count bytes) };
+    ghost judges: { (length count : ℕ) (bytes : List ℕ) → AreBytes bytes
+        → Judges count_of (means length) count bytes (plain_of length count bytes) };
 
     // A law: bytes that mean values are read as these, and whatever follows is left.
-    ghost again: { (length : ℕ) (values : Self.Values) (bytes rest : List ℕ) → means length values bytes → plain_of length (count_of values) (bytes ++ rest) ≡ whole_at values rest };
+    ghost again: { (length : ℕ) (values : Self.Values) (bytes rest : List ℕ) → means length values bytes
+        → plain_of length (count_of values) (bytes ++ rest) ≡ whole_at values rest };
 }
 
 /// The `count` values that the bytes are.
@@ -73,7 +75,7 @@ pub fn read_plain<T: Plain>(
 }
 
 /// Takes away what is behind a front of so many bytes.
-fn cut_back(alloc: Global, out: &mut Bytes, size: usize)
+pub(crate) fn cut_back(alloc: Global, out: &mut Bytes, size: usize)
     ensures { out.new ≡ take size out.old }
 {
     let mut bytes = mem::replace(out, Items::new(alloc)).into_vec();

@@ -3,7 +3,7 @@ ghost use Rattle.std.specs.Prelude.{◌≡◌, ◌*◌, ◌++◌, ◌^◌, ◌<�
 ghost use Rattle.plain_values.specs.Answers.{BeginsWith, ReadsPlain};
 ghost use Rattle.plain_values.specs.Flags.{AreFlags, flag_at, flags_at, flag_number, flags_spelling};
 ghost use Rattle.plain_values.specs.Meaning.{whole};
-ghost use Rattle.plain_values.specs.FlagLaws.{flags_tell, flags_again};
+ghost use Rattle.plain_values.specs.FlagsRead.{flags_judge, flags_again};
 
 use crate::fault::PlainFault;
 use crate::plain::Plain;
@@ -49,7 +49,7 @@ impl Plain for PlainBoolean {
 
     ghost spelling = { λ flags. flags_spelling flags };
 
-    ghost tells = { λ size count bytes are. flags_tell count bytes };
+    ghost judges = { λ size count bytes are. flags_judge count bytes };
 
     ghost again = { λ size flags bytes rest means. flags_again flags bytes rest means };
 

@@ -2,7 +2,7 @@ use Rattle.std.proofs.Common.{ℕ, ◌≡◌, ◌*◌, map, subst, arith}
 use Rattle.std.specs.Prelude.{slice_index}
 use Rattle.std.specs.List.{flat_map, range_with_len}
 use Rattle.std.proofs.lemmas.Option.{gets}
-use Rattle.level_runs.specs.Answers.{PacksBits}
+use Rattle.level_runs.specs.Steps.{PacksBits}
 use Rattle.level_runs.specs.Bits.{bits}
 use Rattle.level_runs.proofs.Filling.{packs_start, packs_next, all_packed}
 use Rattle.level_runs.proofs.packing.pack.Goals as goal

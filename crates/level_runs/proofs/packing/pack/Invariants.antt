@@ -1,7 +1,7 @@
 use Rattle.std.proofs.Common.{map}
 use Rattle.std.specs.Prelude.{slice_index}
 use Rattle.std.specs.List.{flat_map, range_with_len}
-use Rattle.level_runs.specs.Answers.{PacksBits}
+use Rattle.level_runs.specs.Steps.{PacksBits}
 use Rattle.level_runs.specs.Bits.{bits}
 use Rattle.level_runs.proofs.packing.pack.Given as goal
 

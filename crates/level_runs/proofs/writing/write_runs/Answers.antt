@@ -1,12 +1,12 @@
 use Rattle.std.proofs.Common.{◌≡◌, ◌<◌, ◌∙◌, ◌++◌, [], length, ap, arith, subst}
 use Rattle.std.proofs.lemmas.Result.{on_ok_weaker}
 use Rattle.std.proofs.lemmas.Grind.{common_steps}
-use Rattle.level_runs.specs.Answers.{WritesRun}
+use Rattle.level_runs.specs.Steps.{WritesRun}
 use Rattle.level_runs.proofs.Cutting.{completes_none, completes_more, all_written, rest_fits}
 use Rattle.level_runs.proofs.writing.write_runs.Goals as goal
 
 pub loop-rest-init : goal.loop-rest-init
-loop-rest-init c = rw (c.new-written.ensures, c.as_slice-rest.ensures) (record { completes = completes_none c.args.width c.args.numbers.now; fit = c.requires.fits })
+loop-rest-init c = rw (c.new-written.ensures, c.as_slice-rest.ensures) (record { completes = completes_none c.args.width c.args.numbers.now; fit = c.requires })
 
 pub loop-rest-preserved : goal.loop-rest-preserved
 loop-rest-preserved c =

@@ -1,5 +1,5 @@
 use Rattle.std.proofs.Common.{◌++◌, ◌^◌, ◌<◌}
-use Rattle.level_runs.specs.Answers.{PacksBits}
+use Rattle.level_runs.specs.Steps.{PacksBits}
 use Rattle.level_runs.specs.Bits.{bits}
 use Rattle.level_runs.proofs.packing.BitsHeld.put.Given as goal
 

@@ -3,7 +3,7 @@ use Rattle.std.proofs.Common.{◌≡◌, ℕ, ◌+◌, ◌/◌, ◌%◌, ◌^◌
 use Rattle.std.proofs.lemmas.Bool.{ltb-true, ltb-false, le-ltb}
 use Rattle.std.proofs.lemmas.List.{drop_at, take-append-drop, length-take-le, length-drop, get_or-take, get_or_append_left}
 use Rattle.std.proofs.lemmas.List.FromFn.{length-map-range_with_len, get_or-map-range_with_len, fill_by_all}
-use Rattle.plain_values.specs.Meaning.{whole_at, whole, Front, Tells}
+use Rattle.plain_values.specs.Meaning.{whole_at, whole, Front, Judges}
 use Rattle.plain_values.specs.Flags.{flag_bytes, flag_at, flags_in, AreFlags, flags_at}
 
 -- ---- the bits of bytes of which others stand behind
@@ -27,7 +27,7 @@ flags_append bytes rest count size = flags_same (bytes ++ rest) bytes count (λ 
 
 -- ---- the laws
 
-tell_held : (count : ℕ) (bytes rest : List ℕ) → flag_bytes count ≤ length bytes → drop (flag_bytes count) bytes ≡ rest → Tells length AreFlags count bytes (whole_at (flags_in bytes count) rest)
+tell_held : (count : ℕ) (bytes rest : List ℕ) → flag_bytes count ≤ length bytes → drop (flag_bytes count) bytes ≡ rest → Judges length AreFlags count bytes (whole_at (flags_in bytes count) rest)
 tell_held count bytes [] held is =
     let counted = length-map-range_with_len (flag_at bytes) 0 count in
     let sizes = length-drop (flag_bytes count) bytes in
@@ -49,7 +49,7 @@ tell_held count bytes (b ∷ bs) held is =
     }
 
 tell_by : (count : ℕ) (bytes : List ℕ) (small : Bool) → ltb (length bytes) (flag_bytes count) ≡ small
-    → Tells length AreFlags count bytes (whole (cond {A = Front (List Bool)} small None (Some (flags_in bytes count, drop (flag_bytes count) bytes))))
+    → Judges length AreFlags count bytes (whole (cond {A = Front (List Bool)} small None (Some (flags_in bytes count, drop (flag_bytes count) bytes))))
 tell_by count bytes true small = λ values front rest counted means joined.
     let short = ltb-true (length bytes) (flag_bytes count) small in
     let sizes : length bytes ≡ length front + length rest = ap length joined ∙ length-append front rest in
@@ -57,8 +57,8 @@ tell_by count bytes true small = λ values front rest counted means joined.
     absurd (omega arith)
 tell_by count bytes false small = tell_held count bytes (drop (flag_bytes count) bytes) (ltb-false (length bytes) (flag_bytes count) small) refl
 
-pub flags_tell : (count : ℕ) (bytes : List ℕ) → Tells length AreFlags count bytes (whole (flags_at count bytes))
-flags_tell count bytes = tell_by count bytes (ltb (length bytes) (flag_bytes count)) refl
+pub flags_judge : (count : ℕ) (bytes : List ℕ) → Judges length AreFlags count bytes (whole (flags_at count bytes))
+flags_judge count bytes = tell_by count bytes (ltb (length bytes) (flag_bytes count)) refl
 
 pub flags_again : (flags : List Bool) (bytes rest : List ℕ) → AreFlags flags bytes → whole (flags_at (length flags) (bytes ++ rest)) ≡ whole_at flags rest
 flags_again flags bytes rest are =

@@ -1,13 +1,12 @@
-// Columns of each lane, and how long a gather takes.
+// Columns of each lane, and large ones.
 ghost use Rattle.std.specs.Prelude.{◌≡◌, ◌<◌, ◌∷◌, [], All, IfOk, length};
 ghost use Rattle.dm_types.specs.Lanes.{IsNullOrOf};
 ghost use Rattle.dm_types.specs.declared.value.Value.TheVariants.{Null};
 
-use crate::{AnyColumn, Batch, Column, LaneColumn, Selection};
+use column_vectors::{AnyColumn, Batch, Column, LaneColumn, Selection};
 use dm_types::{DataType, Decimal, LaneLong, PlaceList, Row, Text, Value, same};
 use std::alloc::{AllocError, Global};
 use std::test::Fail;
-use std::time::Instant;
 
 // A column of a value, null, and another value.
 fn column_of(
@@ -113,29 +112,24 @@ fn from_last(alloc: Global, rows: usize) -> Result<PlaceList, AllocError>
     Ok(places)
 }
 
-// The rows at the places, gathered twice; the second time counts.
-fn gathered_twice(
-    alloc: Global,
-    column: &Column<LaneLong>,
-    places: &PlaceList,
-) -> Result<Column<LaneLong>, AllocError>
-    requires { All (λ place. place < length column.now.values) places.now }
-    ensures { IfOk result (λ gathered. length gathered.values ≡ length places.now) }
-{
-    column.gather(alloc, places)?;
-    column.gather(alloc, places)
+// Whether a column has null and a number in turn.
+fn alternates(column: &Column<LaneLong>) -> bool {
+    for row in 0..column.len() {
+        let wanted = if row % 2 == 0 { None } else { Some(7) };
+        if column.get(row).copied() != wanted {
+            return false;
+        }
+    }
+    true
 }
 
 #[test]
-fn a_million_values_are_gathered_in_a_second(rt: HostRuntime) -> Result<(), Fail> {
+fn a_million_values_are_gathered_from_the_last_on(rt: HostRuntime) -> Result<(), Fail> {
     let column = long_column(rt.alloc())?;
     let places = from_last(rt.alloc(), column.len())?;
-    let start = Instant::now(&rt)?;
-    let gathered = gathered_twice(rt.alloc(), &column, &places)?;
-    let time = start.elapsed(&rt)?;
-    assert!(rt; time.as_millis() < 1000);
+    let gathered = column.gather(rt.alloc(), &places)?;
     assert!(rt; gathered.len() == 1048576);
-    assert!(rt; gathered.is_null(0));
+    assert!(rt; alternates(&gathered));
     Ok(())
 }
 

@@ -1,5 +1,5 @@
 // Values of each physical type, both ways, and bytes that are too few or too many.
-use crate::{
+use plain_values::{
     Plain, PlainBoolean, PlainByteArray, PlainDouble, PlainFault, PlainFixed, PlainFloat,
     PlainInt32, PlainInt64, PlainInt96, read_plain, write_plain,
 };

@@ -1,7 +1,7 @@
 // Runs from outside, of every width, and cut.
 ghost use Rattle.std.specs.Prelude.{◌^◌, ◌<◌, ◌≤◌, IfOk, All};
 
-use crate::{RunFault, read_runs, write_runs};
+use level_runs::{RunFault, read_runs, write_runs};
 use dm_types::{Items, NumberList};
 use std::alloc::{AllocError, Global};
 use std::test::Fail;
@@ -131,5 +131,16 @@ fn every_width_is_read_back(rt: HostRuntime) -> Result<(), Fail> {
             assert!(rt; bad, "width {width} cut at {cut}");
         }
     }
+    Ok(())
+}
+
+#[test]
+fn wide_numbers_have_zeros_above_them(rt: HostRuntime) -> Result<(), Fail> {
+    let alloc = rt.alloc();
+    let numbers = Items::from_slice(alloc, &[7, 7, 300])?;
+    let mut bytes = Items::new(alloc);
+    write_runs(alloc, &numbers, 40, &mut bytes)?;
+    let wanted: &[u8] = &[4, 7, 0, 0, 0, 0, 2, 0x2C, 1, 0, 0, 0];
+    assert_eq!(rt; bytes.as_slice(), wanted);
     Ok(())
 }

@@ -11,7 +11,7 @@ use Rattle.byteorder.specs.Endian.{little_number, little_bytes}
 use Rattle.byteorder.specs.Numbers.{little_number-reads_back, length-bytes_low_first, little_from-lt}
 use Rattle.dm_types.specs.Then.{◌>>=◌}
 use Rattle.plain_values.specs.Meaning.{AreBytes, Front, bytes_at}
-use Rattle.plain_values.specs.InTurn.{IsRead}
+use Rattle.plain_values.specs.Steps.{IsReaderOf}
 use Rattle.plain_values.specs.Forms.{int32_bytes, int64_bytes, array_bytes, own_bytes, IsInt32, IsInt64, IsArray, HasSize, as_int32, int32_at, as_int64, int64_at, array_at}
 
 -- ---- so many bytes
@@ -46,7 +46,7 @@ bytes_before front rest are = λ place.
 
 -- ---- INT96, FLOAT, DOUBLE and FIXED_LEN_BYTE_ARRAY
 
-pub own_read : (size : ℕ) → IsRead (bytes_at size) (HasSize size) own_bytes
+pub own_read : (size : ℕ) → IsReaderOf (bytes_at size) (HasSize size) own_bytes
 own_read size = record {
   found = λ bytes value rest are is. let parts = bytes_found size bytes (value, rest) is in (parts.held, parts.whole);
   again = λ value rest is. bytes_again size value rest is;
@@ -73,7 +73,7 @@ int32_found bytes value rest (Some found) are known is =
     ap int32_bytes (sym first) ∙ ap (little_bytes 4) (of_z-to_z w32 (little_number 4 found.0) small) ∙ little_4 found.0 parts.held own in
     (subst IsInt32 first (sfits_to_z {w = w32} {n = little_number 4 found.0} (Fits-of_lt {w = w32} small)), parts.whole ∙ ap (λ bs. found.0 ++ bs) second ∙ ap (λ bs. bs ++ rest) (sym back))
 
-pub int32_read : IsRead int32_at IsInt32 int32_bytes
+pub int32_read : IsReaderOf int32_at IsInt32 int32_bytes
 int32_read = record {
   found = λ bytes value rest are is. int32_found bytes value rest (bytes_at 4 bytes) are refl is;
   again = λ value rest is.
@@ -97,7 +97,7 @@ int64_found bytes value rest (Some found) are known is =
     ap int64_bytes (sym first) ∙ ap (little_bytes 8) (of_z-to_z w64 (little_number 8 found.0) small) ∙ little_8 found.0 parts.held own in
     (subst IsInt64 first (sfits_to_z {w = w64} {n = little_number 8 found.0} (Fits-of_lt {w = w64} small)), parts.whole ∙ ap (λ bs. found.0 ++ bs) second ∙ ap (λ bs. bs ++ rest) (sym back))
 
-pub int64_read : IsRead int64_at IsInt64 int64_bytes
+pub int64_read : IsReaderOf int64_at IsInt64 int64_bytes
 int64_read = record {
   found = λ bytes value rest are is. int64_found bytes value rest (bytes_at 8 bytes) are refl is;
   again = λ value rest is.
@@ -123,7 +123,7 @@ array_found bytes value rest (Some found) are known is =
       head.whole ∙ ap (λ bs. found.0 ++ bs) body.whole ∙ sym (append_assoc found.0 value rest) ∙ ap (λ bs. bs ++ value ++ rest) (sym size),
     )
 
-pub array_read : IsRead array_at IsArray array_bytes
+pub array_read : IsReaderOf array_at IsArray array_bytes
 array_read = record {
   found = λ bytes value rest are is. array_found bytes value rest (bytes_at 4 bytes) are refl is;
   again = λ value rest is.

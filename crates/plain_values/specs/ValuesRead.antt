@@ -1,15 +1,11 @@
--- Values that stand one after the other are read as they are spelled, which the laws of `Plain` cite.
+-- Values that stand one after the other are read as they are spelled, as the laws of `Plain` say.
 use Rattle.std.proofs.Common.{◌≡◌, ℕ, zero, suc, ◌+◌, ◌<◌, List, [], ◌∷◌, ◌++◌, length, Some, None, refl, sym, ap, ◌∙◌, subst, append_assoc}
 use Rattle.std.specs.List.{AllByRecursion, flat_map}
 use Rattle.std.proofs.lemmas.List.{append-nil, get_or-append-add}
 use Rattle.std.proofs.lemmas.List.Elements.{All-from_recursion, recursion_from_All}
 use Rattle.dm_types.specs.Then.{◌>>=◌}
-use Rattle.plain_values.specs.Meaning.{AreBytes, StandInTurn, Front, with_value, values_at, whole_at, whole, Tells}
-
--- what is read of one value is what its own bytes are
-pub record IsRead {V : Type 0} (one : List ℕ → Front V) (is : V → Type 0) (spelled : V → List ℕ) : Type 0 where
-  pub found : (bytes : List ℕ) (value : V) (rest : List ℕ) → AreBytes bytes → one bytes ≡ Some (value, rest) → is value × (bytes ≡ spelled value ++ rest)
-  pub again : (value : V) (rest : List ℕ) → is value → one (spelled value ++ rest) ≡ Some (value, rest)
+use Rattle.plain_values.specs.Meaning.{AreBytes, StandInTurn, Front, with_value, values_at, whole_at, whole, Judges}
+use Rattle.plain_values.specs.Steps.{IsReaderOf}
 
 pub bytes_behind : (front rest : List ℕ) → AreBytes (front ++ rest) → AreBytes rest
 bytes_behind front rest are = λ place. subst (λ n. n < 256) (get_or-append-add front rest place 0) (are (length front + place))
@@ -20,7 +16,7 @@ pub record Found {V : Type 0} (is : V → Type 0) (spelled : V → List ℕ) (co
   pub each : AllByRecursion is values
   pub joined : bytes ≡ flat_map spelled values ++ rest
 
-module _ {V : Type 0} (one : List ℕ → Front V) (is : V → Type 0) (spelled : V → List ℕ) (read : IsRead one is spelled) where
+module _ {V : Type 0} (one : List ℕ → Front V) (is : V → Type 0) (spelled : V → List ℕ) (read : IsReaderOf one is spelled) where
   found_behind : (count : ℕ) (bytes : List ℕ) (first : V × List ℕ) (known : Front (List V)) (found : List V × List ℕ) → AreBytes bytes → one bytes ≡ Some first → with_value first.0 known ≡ Some found
       → ((more : List V × List ℕ) → AreBytes first.1 → known ≡ Some more → Found is spelled count first.1 more.0 more.1) → Found is spelled (suc count) bytes found.0 found.1
   found_behind count bytes first None found are taken known later = absurd cc
@@ -60,7 +56,7 @@ module _ {V : Type 0} (one : List ℕ → Front V) (is : V → Type 0) (spelled 
 
   -- ---- the laws
 
-  tells_found : (count : ℕ) (bytes : List ℕ) (values : List V) (rest : List ℕ) → Found is spelled count bytes values rest → Tells length (StandInTurn is spelled) count bytes (whole_at values rest)
+  tells_found : (count : ℕ) (bytes : List ℕ) (values : List V) (rest : List ℕ) → Found is spelled count bytes values rest → Judges length (StandInTurn is spelled) count bytes (whole_at values rest)
   tells_found count bytes values [] found = (found.counted, record { each = All-from_recursion is values found.each; joined = found.joined ∙ append-nil (flat_map spelled values) })
   tells_found count bytes values (b ∷ bs) found = record {
     values = values;
@@ -72,15 +68,15 @@ module _ {V : Type 0} (one : List ℕ → Front V) (is : V → Type 0) (spelled 
     left = λ none. absurd cc;
   }
 
-  tells_by : (count : ℕ) (bytes : List ℕ) (known : Front (List V)) → AreBytes bytes → values_at one count bytes ≡ known → Tells length (StandInTurn is spelled) count bytes (whole known)
+  tells_by : (count : ℕ) (bytes : List ℕ) (known : Front (List V)) → AreBytes bytes → values_at one count bytes ≡ known → Judges length (StandInTurn is spelled) count bytes (whole known)
   tells_by count bytes None are known = λ values front rest counted means joined.
       let spelled_so : bytes ≡ flat_map spelled values ++ rest = joined ∙ ap (λ bs. bs ++ rest) means.joined in
       let read_so = sym known ∙ ap (values_at one count) spelled_so ∙ ap (λ n. values_at one n (flat_map spelled values ++ rest)) (sym counted) ∙ values_again values rest (recursion_from_All is values means.each) in
       cc
   tells_by count bytes (Some found) are known = tells_found count bytes found.0 found.1 (values_found count bytes found are known)
 
-  pub in_turn_tells : (count : ℕ) (bytes : List ℕ) → AreBytes bytes → Tells length (StandInTurn is spelled) count bytes (whole (values_at one count bytes))
-  in_turn_tells count bytes are = tells_by count bytes (values_at one count bytes) are refl
+  pub in_turn_judges : (count : ℕ) (bytes : List ℕ) → AreBytes bytes → Judges length (StandInTurn is spelled) count bytes (whole (values_at one count bytes))
+  in_turn_judges count bytes are = tells_by count bytes (values_at one count bytes) are refl
 
   pub in_turn_again : (values : List V) (bytes rest : List ℕ) → StandInTurn is spelled values bytes → whole (values_at one (length values) (bytes ++ rest)) ≡ whole_at values rest
   in_turn_again values bytes rest means =

@@ -1,6 +1,6 @@
 use Rattle.std.proofs.Common.{◌^◌, ◌<◌}
 use Rattle.std.specs.List.{All}
-use Rattle.level_runs.proofs.tests.sample.Given as goal
+use Rattle.format_tests.proofs.tests.runs.sample.Given as goal
 
 abbrev pub invariant-loop-place : goal.invariant-loop-place
 invariant-loop-place l = All (λ number. number < 2 ^ l.width) l.numbers
