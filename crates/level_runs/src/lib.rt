@@ -2,7 +2,7 @@
 #![tactic(auto)]
 
 mod fault;
-mod laws;
+pub mod laws;
 mod packed;
 mod packing;
 mod reading;
@@ -10,6 +10,5 @@ mod varint;
 mod writing;
 
 pub use fault::RunFault;
-pub use laws::{no_runs, one_meaning, runs_again, runs_fit, runs_mean};
 pub use reading::read_runs;
 pub use writing::write_runs;

@@ -3,5 +3,3 @@ pub mod ChunksWritten
 pub mod LeavesWritten
 pub mod FilesBack
 pub mod FilesWritten
-pub mod Samples
-pub mod Growing

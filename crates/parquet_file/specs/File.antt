@@ -19,12 +19,14 @@ magic = codes "PAR1"
 -- what stands before a footer of so many bytes, and the footer; the first four bytes are no footer's
 abbrev pub cut_footer : ℕ → List ℕ → Option (List ℕ × List ℕ)
 cut_footer size front =
-    if nat_lt (length front) (4 + size) then None else Some (take (length front - size) front, drop (length front - size) front)
+    if nat_lt (length front) (4 + size) then None
+    else Some (take (length front - size) front, drop (length front - size) front)
 
 -- `PAR1`, pages, the footer, its length in four bytes (little endian), `PAR1`
 abbrev pub file_parts : List ℕ → Option (List ℕ × List ℕ)
 file_parts bytes =
-    if nat_lt (length bytes) 12 || not (bytes_eq (take 4 bytes) magic) || not (bytes_eq (drop (length bytes - 4) bytes) magic) then None
+    if nat_lt (length bytes) 12 || not (bytes_eq (take 4 bytes) magic)
+    || not (bytes_eq (drop (length bytes - 4) bytes) magic) then None
     else cut_footer (little_number 4 (drop (length bytes - 8) bytes)) (take (length bytes - 8) bytes)
 
 -- a file: its bytes before the footer, and the footer
@@ -41,7 +43,8 @@ opened bytes = do
 -- the values of the i-th leaf in a row group, which has a chunk for each leaf
 abbrev pub group_values : List ℕ → Wanted → ℕ → RowGroup → Answer (List Value)
 group_values pages wanted i group =
-    go (or_else fault.BadParquet (slice_get group.chunks i)) (λ chunk. chunk_values pages chunk wanted (unsigned_abs group.rows))
+    go (or_else fault.BadParquet (slice_get group.chunks i)) (λ chunk.
+    chunk_values pages chunk wanted (unsigned_abs group.rows))
 
 -- its values in row groups, one after the other
 unfoldable pub groups_values : List ℕ → Wanted → ℕ → List RowGroup → Answer (List Value)

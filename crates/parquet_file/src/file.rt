@@ -11,7 +11,7 @@ ghost use Rattle.std.specs.Option.{option_copied};
 use column_vectors::AnyColumn;
 use dm_types::DataType;
 use parquet_meta::{ChunkMeta, Footer, LeafSchema, RowGroup};
-use parquet_pages::{ColumnReader, FileFault, columns_grow, fits};
+use parquet_pages::{ColumnReader, FileFault, fits, laws};
 use std::alloc::Global;
 use std::marker::Model;
 
@@ -35,7 +35,7 @@ impl<'a> ParquetFile<'a> {
     pub fn rows(&self) -> u64
         ensures { result ≡ unsigned_abs self.now.footer.rows }
     {
-        self.footer.rows.unsigned_abs()
+        count_of(self.footer.rows)
     }
 
     /// How many leaves the schema has. It takes no memory.
@@ -67,9 +67,10 @@ impl<'a> ParquetFile<'a> {
     ) -> Result<AnyColumn, FileFault>
         requires leaf { i < length self.now.footer.leaves }
         requires kind { IsWellFormed kind.now }
-        ensures { Gives (λ column. column) (go (column_of self.now i kind.now nullable text_left) (λ values. Ok (record { kind = kind.now; values = values }))) result }
+        ensures { Gives (λ column. column) (go (column_of self.now i kind.now nullable text_left)
+            (λ values. Ok (record { kind = kind.now; values = values }))) result }
     {
-        columns_grow();
+        laws::columns_grow();
         let leaf = self.footer.leaves.get(i);
         if !fits(kind, leaf) {
             return Err(FileFault::Mismatch);
@@ -79,6 +80,13 @@ impl<'a> ParquetFile<'a> {
         let reader = read_groups(alloc, self.pages, groups, leaf, i, reader)?;
         reader.finish()
     }
+}
+
+// A count of rows.
+fn count_of(rows: i64) -> u64
+    ensures { result ≡ unsigned_abs rows }
+{
+    rows.unsigned_abs()
 }
 
 // The chunk of the i-th leaf.
@@ -92,7 +100,7 @@ fn chunk_at(group: &RowGroup, i: usize) -> Option<&ChunkMeta>
 fn rows_in(group: &RowGroup) -> usize
     ensures { result ≡ unsigned_abs group.now.rows }
 {
-    group.rows.unsigned_abs() as usize
+    count_of(group.rows) as usize
 }
 
 // Adds the values of the i-th leaf in row groups, one after the other.
@@ -104,9 +112,10 @@ fn read_groups(
     i: usize,
     reader: ColumnReader,
 ) -> Result<ColumnReader, FileFault>
-    ensures { Gives (λ reader. reader) (go (groups_values pages.now (wanted reader leaf.now) i groups.now) (λ values. Ok (with_more values reader))) result }
+    ensures { Gives (λ reader. reader) (go (groups_values pages.now (wanted reader leaf.now) i groups.now)
+        (λ values. Ok (with_more values reader))) result }
 {
-    columns_grow();
+    laws::columns_grow();
     let mut reader = reader;
     for group in groups {
         let Some(chunk) = chunk_at(group, i) else {

@@ -10,6 +10,3 @@ pub use columns::{FileColumn, FileColumns};
 pub use file::ParquetFile;
 pub use opening::open_file;
 pub use writing::write_file;
-
-#[cfg(test)]
-mod tests;

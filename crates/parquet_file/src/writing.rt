@@ -11,9 +11,9 @@ use crate::columns::{FileColumn, FileColumns};
 use crate::opening::MAGIC;
 use byteorder::{ByteOrder, LittleEndian};
 use dm_types::{Bytes, Items};
-use parquet_meta::{ChunkList, ChunkMeta, Footer, LeafList, Memory, RowGroup, write_footer};
+use parquet_meta::{ChunkList, ChunkMeta, Footer, LeafList, RowGroup, SharedBytes, write_footer};
 use parquet_pages::{leaf_for, write_chunk};
-use std::alloc::Global;
+use std::alloc::{AllocError, Global};
 
 // How many rows columns have, which is the same for each.
 fn rows_of(columns: &FileColumns) -> usize
@@ -26,27 +26,31 @@ fn rows_of(columns: &FileColumns) -> usize
 }
 
 // A column's name.
-fn name_of(alloc: Global, column: &FileColumn) -> Result<Bytes, Memory>
+fn name_of(alloc: Global, column: &FileColumn) -> Result<Bytes, AllocError>
     ensures { IfOk result (λ name. name ≡ column.now.name) }
 {
-    Ok(Items::from_slice(alloc, column.name.as_bytes())?)
+    Items::from_slice(alloc, column.name.as_bytes())
 }
 
 // The leaves of columns.
-fn leaves_of(alloc: Global, columns: &FileColumns) -> Result<LeafList, Memory>
+fn leaves_of(alloc: Global, columns: &FileColumns) -> Result<LeafList, AllocError>
     requires { IsWritableFile columns.now }
     ensures { IfOk result (λ leaves. leaves ≡ map spec.file_leaf columns.now) }
 {
     let mut leaves = Items::new(alloc);
     for column in columns.as_slice() {
-        let name = name_of(alloc, column)?;
+        let name = SharedBytes::new(alloc, name_of(alloc, column)?)?;
         leaves.push(leaf_for(name, column.field_id, &column.kind))?;
     }
     Ok(leaves)
 }
 
 // Adds the chunk of a column, under the column's name.
-fn write_column(alloc: Global, column: &FileColumn, out: &mut Bytes) -> Result<ChunkMeta, Memory>
+fn write_column(
+    alloc: Global,
+    column: &FileColumn,
+    out: &mut Bytes,
+) -> Result<ChunkMeta, AllocError>
     requires column { IsWritableColumn column.now.column }
     requires start { 4 ≤ length out.old }
     ensures { IfOk result (λ chunk. IsChunkOf column.now out.old out.new chunk) }
@@ -60,7 +64,11 @@ fn write_column(alloc: Global, column: &FileColumn, out: &mut Bytes) -> Result<C
 }
 
 // Adds a chunk for each column.
-fn write_chunks(alloc: Global, columns: &FileColumns, out: &mut Bytes) -> Result<ChunkList, Memory>
+fn write_chunks(
+    alloc: Global,
+    columns: &FileColumns,
+    out: &mut Bytes,
+) -> Result<ChunkList, AllocError>
     requires columns { IsWritableFile columns.now }
     requires start { 4 ≤ length out.old }
     ensures { IfOk result (λ chunks. GoesOn columns.now out.old out.new chunks) }
@@ -79,7 +87,7 @@ fn footer_for(
     columns: &FileColumns,
     chunks: ChunkList,
     bytes: i64,
-) -> Result<Footer, Memory>
+) -> Result<Footer, AllocError>
     requires columns { IsWritableFile columns.now }
     requires bytes { spec.total_size chunks ≡ bytes }
     ensures { IfOk result (λ footer. footer ≡ spec.footer_of columns.now chunks) }
@@ -101,7 +109,7 @@ fn footer_for(
 }
 
 // Adds the footer, its length in four bytes, and the magic bytes.
-fn end_file(alloc: Global, footer: &Footer, out: &mut Bytes) -> Result<(), Memory>
+fn end_file(alloc: Global, footer: &Footer, out: &mut Bytes) -> Result<(), AllocError>
     requires { IsWritableFooter footer.now }
     ensures few { OnOk result (length (footer_bytes footer.now) < 2 ^ 32) }
     ensures written { OnOk result (out.new ≡ file_bytes out.old footer.now) }
@@ -110,7 +118,7 @@ fn end_file(alloc: Global, footer: &Footer, out: &mut Bytes) -> Result<(), Memor
     let footer_at = out.len();
     write_footer(alloc, footer, out)?;
     let Ok(size) = u32::try_from(out.len() - footer_at) else {
-        return Err(Memory);
+        return Err(AllocError);
     };
     let mut told = [0u8; 4];
     LittleEndian::write_u32(&mut told, size);
@@ -124,8 +132,8 @@ fn end_file(alloc: Global, footer: &Footer, out: &mut Bytes) -> Result<(), Memor
 ///
 /// The columns are all of one length, each of its kind, with values in their range; there are at most
 /// 502 columns, 20,000,000 rows, 1 MiB in a name and 536,870,912 bytes of text in a column. So the
-/// footer's length has room in its four bytes; where it had none, the answer would be `Memory`.
-pub fn write_file(alloc: Global, columns: &FileColumns) -> Result<Bytes, Memory>
+/// footer's length has room in its four bytes; where it had none, the answer would be want of memory.
+pub fn write_file(alloc: Global, columns: &FileColumns) -> Result<Bytes, AllocError>
     requires { IsWritableFile columns.now }
     ensures written { IfOk result (λ bytes. WritesFile columns.now bytes) }
     // What is written is read as these columns.

@@ -7,7 +7,7 @@ use Rattle.parquet_meta.specs.declared.metadata.LeafSchema.{LeafSchema}
 use Rattle.parquet_pages.specs.Answers.{Gives, GivesBody}
 use Rattle.parquet_pages.specs.Kept.{IsReading, with_more}
 use Rattle.parquet_pages.specs.Pages.{Answer, Cut, State, Wanted, page_at, page_entries, pages_at}
-use Rattle.parquet_pages.specs.Taking.{Takes, TakesPage}
+use Rattle.parquet_pages.specs.Taking.{GoesInto, PageGoesInto}
 use Rattle.parquet_pages.specs.Views.{wanted}
 use Rattle.parquet_pages.specs.declared.fault.FileFault.{FileFault}
 use Rattle.parquet_pages.specs.declared.fault.FileFault.TheVariants as fault
@@ -36,11 +36,11 @@ fault_kept known step e is = rw is refl
 
 -- ---- a page
 
-pub data_taken : {U : Type 0} (known : Answer (List Value)) (old new : Reading) (state : State) (done : U) → Takes known old new (Ok done) → TakesPage (go known (λ values. Ok (values, state))) old new state (Ok done)
+pub data_taken : {U : Type 0} (known : Answer (List Value)) (old new : Reading) (state : State) (done : U) → GoesInto known old new (Ok done) → PageGoesInto (go known (λ values. Ok (values, state))) old new state (Ok done)
 data_taken (Ok values) old new state done is = let e : with_more values old ≡ new = cc in rw e refl
 data_taken (Err f) old new state done is = absurd cc
 
-pub data_failed : (U : Type 0) (known : Answer (List Value)) (old new : Reading) (state behind : State) (f : FileFault) → Takes {U = U} known old new (Err f) → TakesPage {U = U} (go known (λ values. Ok (values, state))) old new behind (Err f)
+pub data_failed : (U : Type 0) (known : Answer (List Value)) (old new : Reading) (state behind : State) (f : FileFault) → GoesInto {U = U} known old new (Err f) → PageGoesInto {U = U} (go known (λ values. Ok (values, state))) old new behind (Err f)
 data_failed U known old new state behind f is =
     moved U U (λ done. new) (λ done. (new, behind)) (go known (λ values. Ok (with_more values old))) (go (go known (λ values. Ok (values, state))) (λ page. Ok (with_more page.0 old, page.1))) f (λ e same.
     let first = fault_before known (λ values. with_more values old) e same in rw first refl) is
@@ -87,7 +87,7 @@ pub record Reached (leaf : LeafSchema) (whole : Answer (List Value)) (most : ℕ
 pub reached_first : (leaf : LeafSchema) (most : ℕ) (state : State) (bytes : List ℕ) (old : Reading) → IsReading old → Reached leaf (pages_at most (wanted old leaf) state bytes) most state bytes old old
 reached_first leaf most state bytes old is = record { is = is; kind = refl; nullable = refl; same = refl }
 
-pub reached_last : {U : Type 0} (leaf : LeafSchema) (whole : Answer (List Value)) (most : ℕ) (state : State) (rest : List ℕ) (old new : Reading) (done : U) → Reached leaf whole most state rest old new → state.left ≡ 0 → Takes whole old new (Ok done)
+pub reached_last : {U : Type 0} (leaf : LeafSchema) (whole : Answer (List Value)) (most : ℕ) (state : State) (rest : List ℕ) (old new : Reading) (done : U) → Reached leaf whole most state rest old new → state.left ≡ 0 → GoesInto whole old new (Ok done)
 reached_last leaf whole most state rest old new done reached none =
     reached.same ∙ ap (λ (known : Answer (List Value)). go known (λ values. Ok (with_more values new))) (nothing_left most (wanted old leaf) state rest none) ∙ ap (λ (r : Reading). Ok r) (with_none new)
 
@@ -102,7 +102,7 @@ reached_fault leaf whole most state rest old new e reached is =
     reached.same ∙ ap (λ (known : Answer (List Value)). go known (λ values. Ok (with_more values new))) is
 
 pub cut_failed : (X U : Type 0) (leaf : LeafSchema) (whole : Answer (List Value)) (most : ℕ) (state : State) (rest : List ℕ) (view : X → Cut) (f : FileFault) (old new : Reading) → Reached leaf whole (suc most) state rest old new → (state.left == 0) ≡ false
-    → GivesBody {X = X} view (page_at rest) (Err f) → Takes {U = U} whole old new (Err f)
+    → GivesBody {X = X} view (page_at rest) (Err f) → GoesInto {U = U} whole old new (Err f)
 cut_failed X U leaf whole most state rest view fault.Memory old new reached left is = tt
 cut_failed X U leaf whole most state rest view fault.BadParquet old new reached left is = reached_fault leaf whole (suc most) state rest old new fault.BadParquet reached (no_page most (wanted old leaf) state rest left is)
 cut_failed X U leaf whole most state rest view fault.Compressed old new reached left is = absurd is
@@ -112,7 +112,7 @@ cut_failed X U leaf whole most state rest view fault.Range old new reached left 
 cut_failed X U leaf whole most state rest view fault.TextLimit old new reached left is = absurd is
 
 pub page_failed : (U : Type 0) (leaf : LeafSchema) (whole : Answer (List Value)) (most : ℕ) (state behind : State) (rest : List ℕ) (page : Cut) (f : FileFault) (old middle new : Reading) → Reached leaf whole (suc most) state rest old middle → (state.left == 0) ≡ false
-    → page_at rest ≡ Some page → TakesPage {U = U} (page_entries (wanted middle leaf) state page.header page.body) middle new behind (Err f) → Takes {U = U} whole old new (Err f)
+    → page_at rest ≡ Some page → PageGoesInto {U = U} (page_entries (wanted middle leaf) state page.header page.body) middle new behind (Err f) → GoesInto {U = U} whole old new (Err f)
 page_failed U leaf whole most state behind rest page f old middle new reached left cut is =
     moved U U (λ done. (new, behind)) (λ done. new) (go (page_entries (wanted middle leaf) state page.header page.body) (λ found. Ok (with_more found.0 middle, found.1))) (go whole (λ values. Ok (with_more values old))) f (λ e same.
     let first = fault_before (page_entries (wanted middle leaf) state page.header page.body) (λ found. (with_more found.0 middle, found.1)) e same in
@@ -125,14 +125,14 @@ record PageTaken (known : Answer (List Value × State)) (old new : Reading) (sta
   grows : new ≡ with_more found.0 old
   behind : state ≡ found.1
 
-page_taken : {U : Type 0} (known : Answer (List Value × State)) (old new : Reading) (state : State) (done : U) → TakesPage known old new state (Ok done) → PageTaken known old new state
+page_taken : {U : Type 0} (known : Answer (List Value × State)) (old new : Reading) (state : State) (done : U) → PageGoesInto known old new state (Ok done) → PageTaken known old new state
 page_taken (Ok found) old new state done is =
     let pair : ◌≡◌ {A = Reading × State} (with_more found.0 old, found.1) (new, state) = cc in
     record { found = found; is = refl; grows = sym (ap (λ (p : Reading × State). p.0) pair); behind = sym (ap (λ (p : Reading × State). p.1) pair) }
 page_taken (Err f) old new state done is = absurd cc
 
 pub reached_next : {U : Type 0} (leaf : LeafSchema) (whole : Answer (List Value)) (most : ℕ) (state behind : State) (rest : List ℕ) (page : Cut) (old middle new : Reading) (done : U) → Reached leaf whole (suc most) state rest old middle → (state.left == 0) ≡ false
-    → page_at rest ≡ Some page → TakesPage (page_entries (wanted middle leaf) state page.header page.body) middle new behind (Ok done) → Reached leaf whole most behind page.rest old new
+    → page_at rest ≡ Some page → PageGoesInto (page_entries (wanted middle leaf) state page.header page.body) middle new behind (Ok done) → Reached leaf whole most behind page.rest old new
 reached_next leaf whole most state behind rest page old middle new done reached left cut is =
     let taken = page_taken (page_entries (wanted middle leaf) state page.header page.body) middle new behind done is in
     let w = same_wanted leaf old middle reached.kind reached.nullable in

@@ -19,9 +19,10 @@ use Rattle.parquet_meta.specs.declared.headers.PageHeader.{PageHeader}
 use Rattle.parquet_meta.specs.declared.headers.PageV1.{PageV1}
 use Rattle.parquet_meta.specs.declared.metadata.ChunkMeta.{ChunkMeta}
 use Rattle.plain_values.specs.Meaning.{Front, bytes_at}
+use Rattle.parquet_meta.specs.declared.numbers.TheConstants.{PLAIN, RLE}
 use Rattle.parquet_pages.specs.Chunk.{bytes_between, chunk_of, chunk_values}
 use Rattle.parquet_pages.specs.Entries.{full}
-use Rattle.parquet_pages.specs.Pages.{Answer, State, Wanted, begun, column_values, cut_page, data_page, entries_of, or_else, page_at, page_entries, page_values, pages_at, right, rle_levels, role_of, take_page, told_levels}
+use Rattle.parquet_pages.specs.Pages.{Answer, State, Wanted, begun, column_values, cut_page, data_page, entries_of, or_else, page_at, page_entries, page_values, pages_at, rle_levels, role_of, take_page, told_levels}
 use Rattle.parquet_pages.specs.Stored.{levels_of, stored_values}
 use Rattle.parquet_pages.specs.Storing.{header_of, IsPage}
 use Rattle.parquet_pages.specs.Writing.{IsReadBack, IsWritableColumn, TakesNulls, chunk_meta}
@@ -87,7 +88,7 @@ module _ (column : Cells) (can : IsWritableColumn column) (page : List ℕ) (so 
   header = header_of rows so.levels so.values
 
   abbrev told : PageV1
-  told = record { values = pos rows; encoding = pos 0; definition = pos 3; repetition = pos 3 }
+  told = record { values = pos rows; encoding = PLAIN; definition = RLE; repetition = RLE }
 
   abbrev front : List ℕ
   front = struct_bytes (header_fields header)
@@ -98,16 +99,16 @@ module _ (column : Cells) (can : IsWritableColumn column) (page : List ℕ) (so 
   runs_back : runs_of 1 rows so.levels ≡ Some (levels_of column.values, length so.levels)
   runs_back = ap (runs_of 1 rows) (sym (append-nil so.levels)) ∙ runs 1 rows so.levels (levels_of column.values) [] (omega arith) so.runs
 
-  plain_back : page_values W.leaf None (pos 0) (full (levels_of column.values)) so.values ≡ Some (stored_values column.kind column.values)
+  plain_back : page_values W.leaf None PLAIN (full (levels_of column.values)) so.values ≡ Some (stored_values column.kind column.values)
   plain_back =
-      ap (λ n. page_values W.leaf None (pos 0) n so.values) (full_count column.kind column.values)
-      ∙ ap right so.plain
+      ap (λ n. page_values W.leaf None PLAIN n so.values) (full_count column.kind column.values)
+      ∙ so.plain
 
   data_back : data_page W None told body ≡ Ok column.values
   data_back =
       let short : length so.levels < 2 ^ 31 = let size = so.size in omega arith in
-      some_step fault.BadParquet (rle_levels rows body) (levels_of column.values, so.values) (λ (levels : List ℕ × List ℕ). entries_of W levels.0 (page_values W.leaf None (pos 0) (full levels.0) levels.1)) (rle_back rows so.levels so.values (levels_of column.values) short runs_back)
-      ∙ some_step fault.BadParquet (page_values W.leaf None (pos 0) (full (levels_of column.values)) so.values) (stored_values column.kind column.values) (λ found. or_else fault.Range (column_values W (record { levels = levels_of column.values; values = found }))) plain_back
+      some_step fault.BadParquet (rle_levels rows body) (levels_of column.values, so.values) (λ (levels : List ℕ × List ℕ). entries_of W levels.0 (page_values W.leaf None PLAIN (full levels.0) levels.1)) (rle_back rows so.levels so.values (levels_of column.values) short runs_back)
+      ∙ some_step fault.BadParquet (page_values W.leaf None PLAIN (full (levels_of column.values)) so.values) (stored_values column.kind column.values) (λ found. or_else fault.Range (column_values W (record { levels = levels_of column.values; values = found }))) plain_back
       ∙ ap (or_else fault.Range) (values_back column.kind nullable name field_id column.values can.values so.texts nulls)
 
   role_back : role_of true rows header ≡ Some (role.Entries told)

@@ -1,5 +1,5 @@
 -- The values of a column can be written, and their page is not too long for its header.
-use Rattle.std.proofs.Common.{◌≡◌, ℕ, zero, suc, ◌+◌, ◌*◌, ◌^◌, ◌<◌, ◌≤◌, ℤ, List, [], ◌∷◌, length, map, Result, Ok, Err, Bool, true, false, cond, eqb, refl, sym, ap, ◌∙◌, subst, arith}
+use Rattle.std.proofs.Common.{◌≡◌, ℕ, zero, suc, ◌+◌, ◌*◌, ◌^◌, ◌<◌, ◌≤◌, ℤ, List, [], ◌∷◌, length, map, Result, Ok, Err, Some, Bool, true, false, cond, eqb, refl, sym, ap, ◌∙◌, subst, arith}
 use Rattle.std.specs.Prelude.{All, IfOk}
 use Rattle.std.specs.Int.{w128}
 use Rattle.std.specs.List.{filter, range_with_len, sum_by, AllByRecursion}
@@ -18,7 +18,8 @@ use Rattle.dm_types.specs.declared.value.Value.TheVariants as value
 use Rattle.level_runs.specs.Answers.{AppendsRuns}
 use Rattle.level_runs.specs.Runs.{MeansRuns}
 use Rattle.parquet_pages.specs.Kept.{text_bytes, text_size}
-use Rattle.parquet_pages.specs.Physical.{Physical, whole_number, raw, fixed_array, plain}
+use Rattle.parquet_pages.specs.Physical.{Physical, whole_number, raw, plain, plain_bytes}
+use Rattle.parquet_meta.specs.declared.numbers.TheConstants.{FIXED_LEN_BYTE_ARRAY}
 use Rattle.parquet_pages.specs.Stored.{decimal_size, decimal_type, first_that, has_room, is_full, length_of, level_of, levels_of, stored, stored_values, type_of}
 use Rattle.parquet_pages.specs.Storing.{AppendsPlain, CanStand, header_of, IsHeaderRead, IsPage, IsStored, raw_size}
 use Rattle.parquet_pages.specs.Views.{physicals}
@@ -31,10 +32,10 @@ if_ok_both (Err e) f p q = tt
 
 -- ---- a value
 
-decimal_stand : (precision : ℕ) (n : ℤ) (b : Bool) → eqb (decimal_type precision) fixed_array ≡ b
+decimal_stand : (precision : ℕ) (n : ℤ) (b : Bool) → eqb (decimal_type precision) FIXED_LEN_BYTE_ARRAY ≡ b
     → CanStand (decimal_type precision) (cond b (decimal_size precision) 0) (cond b (raw (big_bytes (decimal_size precision) (low_bytes w128 (decimal_size precision) n))) (whole_number n))
 decimal_stand precision n true is =
-    (λ e. absurd (let f = eqb-true (decimal_type precision) fixed_array is in omega (arith, e, f)), λ e. length-bytes_high_first (decimal_size precision) (low_bytes w128 (decimal_size precision) n))
+    (λ e. absurd (let f = eqb-true (decimal_type precision) FIXED_LEN_BYTE_ARRAY is in omega (arith, e, f)), λ e. length-bytes_high_first (decimal_size precision) (low_bytes w128 (decimal_size precision) n))
 decimal_stand precision n false is = tt
 
 can_stand : (k : DataType) (v : Value) → IsNullOrInRange k v → text_bytes v < 2 ^ 32 → is_full v ≡ true → CanStand (type_of k) (length_of k) (stored k v)
@@ -48,7 +49,7 @@ can_stand kind.Date (value.Day n) h small full = tt
 can_stand kind.Timestamp (value.Micros n) h small full = tt
 can_stand kind.Str (value.Text t) h small full = (λ e. small, λ e. absurd (omega arith))
 can_stand kind.Binary (value.Bytes b) h small full = (λ e. small, λ e. absurd (omega arith))
-can_stand (kind.Decimal precision scale) (value.Dec d) h small full = decimal_stand precision d.unscaled (eqb (decimal_type precision) fixed_array) refl
+can_stand (kind.Decimal precision scale) (value.Dec d) h small full = decimal_stand precision d.unscaled (eqb (decimal_type precision) FIXED_LEN_BYTE_ARRAY) refl
 can_stand k v h small full = absurd h.1
 
 first_case : (b : Bool) (x y most : ℕ) → x ≤ most → y ≤ most → cond b x y ≤ most
@@ -82,7 +83,7 @@ raw_short kind.Date (value.Day n) h = omega arith
 raw_short kind.Timestamp (value.Micros n) h = omega arith
 raw_short kind.Str (value.Text t) h = omega arith
 raw_short kind.Binary (value.Bytes b) h = omega arith
-raw_short (kind.Decimal precision scale) (value.Dec d) h = let few = decimal_short precision d.unscaled (eqb (decimal_type precision) fixed_array) in omega (arith, few)
+raw_short (kind.Decimal precision scale) (value.Dec d) h = let few = decimal_short precision d.unscaled (eqb (decimal_type precision) FIXED_LEN_BYTE_ARRAY) in omega (arith, few)
 raw_short k v h = absurd h.1
 
 -- ---- the values of a column
@@ -164,12 +165,13 @@ page_made column k rows it levels values page can so same count runs plain' join
     let entries : length it.levels ≡ length column.values = ap length so.levels ∙ length-map column.values level_of in
     let A : List ℕ → ℕ → List ℕ → Type 0 = λ bytes n numbers. MeansRuns 1 n bytes numbers in
     let known = stored_values column.kind column.values in
-    let again : plain (type_of k) (length_of k) (length (physicals it.values)) values ≡ Ok (physicals it.values) = ap (plain (type_of k) (length_of k) (length (physicals it.values))) plain'.joined ∙ plain'.again in
+    let again : plain (type_of k) (length_of k) (length (physicals it.values)) values ≡ Some (physicals it.values) = ap (plain (type_of k) (length_of k) (length (physicals it.values))) plain'.joined ∙ plain'.again in
     record {
       levels = levels;
       values = values;
       runs = rw (runs.joined, sym entries, sym so.levels) runs.means;
-      plain = subst (λ t. plain (type_of t) (length_of t) (length known) values ≡ Ok known) same (subst (λ ps. plain (type_of k) (length_of k) (length ps) values ≡ Ok ps) so.values again);
+      plain = subst (λ t. plain (type_of t) (length_of t) (length known) values ≡ Some known) same (subst (λ ps. plain (type_of k) (length_of k) (length ps) values ≡ Some ps) so.values again);
+      spelled = plain'.joined ∙ plain'.spelled ∙ ap (plain_bytes (type_of k)) so.values ∙ ap (λ t. plain_bytes (type_of t) known) same;
       joined = joined ∙ ap (λ n. page_bytes n levels values) count;
       header = subst (λ n. IsHeaderRead (header_of n levels values)) count header;
       size = page_short column k it levels values can so runs plain';

@@ -14,7 +14,7 @@ use Rattle.parquet_pages.specs.Kept.{grown, grown_by, with_more, text_size, text
 use Rattle.parquet_pages.specs.Pages.{Answer, Wanted, or_else, entry_value, column_values}
 use Rattle.parquet_pages.specs.Physical.{Physical}
 use Rattle.parquet_pages.specs.Places.{entry_with, value_at}
-use Rattle.parquet_pages.specs.Taking.{Takes, TakesOne}
+use Rattle.parquet_pages.specs.Taking.{GoesInto, OneGoesInto}
 use Rattle.parquet_meta.specs.declared.metadata.LeafSchema.{LeafSchema}
 use Rattle.parquet_pages.specs.Views.{chosen, wanted}
 use Rattle.parquet_pages.specs.declared.fault.FileFault.{FileFault}
@@ -80,7 +80,7 @@ pub record TookOne (known : Option Value) (old new : Reading) : Type 0 where
   pub is : known ≡ Some found
   pub grows : new ≡ with_more (found ∷ []) old
 
-pub took_one : {U : Type 0} (known : Option Value) (old new : Reading) (done : U) → TakesOne known old new (Ok done) → TookOne known old new
+pub took_one : {U : Type 0} (known : Option Value) (old new : Reading) (done : U) → OneGoesInto known old new (Ok done) → TookOne known old new
 took_one None old new done is = absurd cc
 took_one (Some v) old new done is = record { found = v; is = refl; grows = cc }
 
@@ -130,7 +130,7 @@ one_taken wanted page count old middle new found taken is grows = record {
 }
 
 -- all entries of a page
-pub all_taken : {U : Type 0} (wanted : Wanted) (page : Page Physical) (old new : Reading) (done : U) → Taken wanted page (length page.levels) old new → Takes (or_else fault.Range (column_values wanted page)) old new (Ok done)
+pub all_taken : {U : Type 0} (wanted : Wanted) (page : Page Physical) (old new : Reading) (done : U) → Taken wanted page (length page.levels) old new → GoesInto (or_else fault.Range (column_values wanted page)) old new (Ok done)
 all_taken wanted page old new done taken = rw (taken.told, taken.grows) refl
 
 -- an entry that has no value
@@ -172,7 +172,7 @@ one_few true = omega arith
 one_few false = omega arith
 
 pub running_on : {U : Type 0} (leaf : LeafSchema) (levels : List ℕ) (values : List Physical) (found : Order) (at before one : ℕ) (entry : Option Physical) (old middle new : Reading) (done : U) → Running leaf levels values found at before old middle
-    → at < length levels → entry ≡ entry_with levels values found at before → one ≡ one_if (not (slice_index levels at == 0)) → TakesOne (entry_value (wanted middle leaf) entry) middle new (Ok done)
+    → at < length levels → entry ≡ entry_with levels values found at before → one ≡ one_if (not (slice_index levels at == 0)) → OneGoesInto (entry_value (wanted middle leaf) entry) middle new (Ok done)
     → Running leaf levels values found (at + 1) (before + one) old new
 running_on leaf levels values found at before one entry old middle new done running less is counted takes =
     let took = took_one (entry_value (wanted middle leaf) entry) middle new done takes in
@@ -190,7 +190,7 @@ running_on leaf levels values found at before one entry old middle new done runn
     }
 
 -- a value that isn't there
-pub one_fails : (U : Type 0) (known : Option Value) (old new : Reading) (f : FileFault) → TakesOne {U = U} known old new (Err f) → (f ≡ fault.Memory) ⊎ ((known ≡ None) × (f ≡ fault.Range))
+pub one_fails : (U : Type 0) (known : Option Value) (old new : Reading) (f : FileFault) → OneGoesInto {U = U} known old new (Err f) → (f ≡ fault.Memory) ⊎ ((known ≡ None) × (f ≡ fault.Range))
 one_fails U known old new fault.Memory is = inl refl
 one_fails U None old new fault.Range is = inr (refl, refl)
 one_fails U None old new fault.BadParquet is = absurd cc
@@ -205,13 +205,13 @@ one_fails U (Some v) old new fault.Encoding is = absurd cc
 one_fails U (Some v) old new fault.Mismatch is = absurd cc
 one_fails U (Some v) old new fault.TextLimit is = absurd cc
 
-fails_so : (U : Type 0) (known : Answer (List Value)) (old new : Reading) (f : FileFault) → (f ≡ fault.Memory) ⊎ ((known ≡ Err fault.Range) × (f ≡ fault.Range)) → Takes {U = U} known old new (Err f)
+fails_so : (U : Type 0) (known : Answer (List Value)) (old new : Reading) (f : FileFault) → (f ≡ fault.Memory) ⊎ ((known ≡ Err fault.Range) × (f ≡ fault.Range)) → GoesInto {U = U} known old new (Err f)
 fails_so U known old new f (inl is) = rw is tt
 fails_so U known old new f (inr is) = rw (is.1, is.0) refl
 
 pub running_fails : {U : Type 0} (leaf : LeafSchema) (levels : List ℕ) (values : List Physical) (found : Order) (at before : ℕ) (entry : Option Physical) (old middle new : Reading) (f : FileFault) (result : Result U FileFault) → Running leaf levels values found at before old middle
-    → at < length levels → entry ≡ entry_with levels values found at before → TakesOne {U = U} (entry_value (wanted middle leaf) entry) middle new (Err f) → result ≡ Err f
-    → (named : List Physical) → chosen values found ≡ Some named → Takes (or_else fault.Range (column_values (wanted old leaf) (record { levels = levels; values = named }))) old new result
+    → at < length levels → entry ≡ entry_with levels values found at before → OneGoesInto {U = U} (entry_value (wanted middle leaf) entry) middle new (Err f) → result ≡ Err f
+    → (named : List Physical) → chosen values found ≡ Some named → GoesInto (or_else fault.Range (column_values (wanted old leaf) (record { levels = levels; values = named }))) old new result
 running_fails {U = U} leaf levels values found at before entry old middle new f result running less is takes failed named known =
     let same : entry ≡ entry_at (record { levels = levels; values = named }) at = is ∙ entry_is values named found levels at before known running.counted in
     let why = one_fails U (entry_value (wanted middle leaf) entry) middle new f takes in
@@ -221,6 +221,6 @@ running_fails {U = U} leaf levels values found at before entry old middle new f 
     ]))
 
 pub running_ends : {U : Type 0} (leaf : LeafSchema) (levels : List ℕ) (values : List Physical) (found : Order) (at before : ℕ) (old new : Reading) (done : U) → Running leaf levels values found at before old new → at ≡ length levels
-    → (named : List Physical) → chosen values found ≡ Some named → Takes (or_else fault.Range (column_values (wanted old leaf) (record { levels = levels; values = named }))) old new (Ok done)
+    → (named : List Physical) → chosen values found ≡ Some named → GoesInto (or_else fault.Range (column_values (wanted old leaf) (record { levels = levels; values = named }))) old new (Ok done)
 running_ends leaf levels values found at before old new done running all named known =
     all_taken (wanted old leaf) (record { levels = levels; values = named }) old new done (subst (λ n. Taken (wanted old leaf) (record { levels = levels; values = named }) n old new) all (running.taken named known))

@@ -19,7 +19,8 @@ use Rattle.dm_types.specs.declared.value.DataType.TheVariants as kind
 use Rattle.dm_types.specs.declared.value.Decimal.{Decimal}
 use Rattle.dm_types.specs.declared.value.Value.{Value}
 use Rattle.dm_types.specs.declared.value.Value.TheVariants as value
-use Rattle.parquet_pages.specs.Physical.{whole_number, raw, fixed_array}
+use Rattle.parquet_pages.specs.Physical.{whole_number, raw}
+use Rattle.parquet_meta.specs.declared.numbers.TheConstants.{FIXED_LEN_BYTE_ARRAY}
 use Rattle.parquet_pages.specs.Stored.{annotation_of, decimal_size, decimal_stored, decimal_type, first_that, has_room, is_full, stored}
 use Rattle.parquet_pages.specs.Types.{decimal, moment, signed_number, value_of, where_it}
 use Rattle.parquet_pages.proofs.Sizes.{last_room}
@@ -114,7 +115,7 @@ decimal_cond precision scale n false few within = decimal_by precision scale n w
 decimal_back : (precision scale : ℕ) (d : Decimal) → precision ≤ 38 → unsigned_abs d.unscaled < 10 ^ precision → d.scale ≡ scale
     → value_of (kind.Decimal precision scale) (annotation_of (kind.Decimal precision scale)) (decimal_stored precision d.unscaled) ≡ Some (value.Dec d)
 decimal_back precision scale d few within same =
-    decimal_cond precision scale d.unscaled (eqb (decimal_type precision) fixed_array) few within ∙ ap (λ s. Some (value.Dec (record { unscaled = d.unscaled; scale = s }))) (sym same)
+    decimal_cond precision scale d.unscaled (eqb (decimal_type precision) FIXED_LEN_BYTE_ARRAY) few within ∙ ap (λ s. Some (value.Dec (record { unscaled = d.unscaled; scale = s }))) (sym same)
 
 -- ---- the other types
 

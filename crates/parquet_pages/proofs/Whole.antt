@@ -11,14 +11,14 @@ use Rattle.parquet_pages.specs.Chunk.{chunk_column, chunk_values, within}
 use Rattle.parquet_pages.specs.Kept.{IsReading, begun, finished, text_size, with_more}
 use Rattle.parquet_pages.specs.Pages.{Answer, Wanted}
 use Rattle.parquet_pages.specs.Types.{fits}
-use Rattle.parquet_pages.specs.Taking.{Takes}
+use Rattle.parquet_pages.specs.Taking.{GoesInto}
 use Rattle.parquet_pages.specs.declared.fault.FileFault.{FileFault}
 use Rattle.parquet_pages.specs.declared.fault.FileFault.TheVariants as fault
 use Rattle.parquet_pages.specs.declared.kept.Reading.{Reading}
 use Rattle.parquet_pages.proofs.PageByPage.{moved, fault_before}
 use Rattle.parquet_pages.proofs.Taken.{reading_kept}
 
-pub takes_kept : {U : Type 0} (known : Answer (List Value)) (old new : Reading) (done : U) → IsReading old → Takes known old new (Ok done) → IsReading new
+pub takes_kept : {U : Type 0} (known : Answer (List Value)) (old new : Reading) (done : U) → IsReading old → GoesInto known old new (Ok done) → IsReading new
 takes_kept (Ok values) old new done is takes = let e : with_more values old ≡ new = cc in subst IsReading e (reading_kept values old is)
 takes_kept (Err f) old new done is takes = absurd cc
 

@@ -4,6 +4,7 @@ use Rattle.std.specs.Ordering.{int_eq}
 use Rattle.dm_types.specs.Then.{go}
 use Rattle.dm_types.specs.declared.value.Value.{Value}
 use Rattle.parquet_meta.specs.declared.metadata.ChunkMeta.{ChunkMeta}
+use Rattle.parquet_meta.specs.declared.numbers.TheConstants.{UNCOMPRESSED}
 use Rattle.parquet_pages.specs.Kept.{text_size}
 use Rattle.parquet_pages.specs.Pages.{Answer, or_else, Wanted, begun, pages_at}
 use Rattle.parquet_pages.specs.Types.{fits}
@@ -31,8 +32,9 @@ chunk_of file chunk rows = if int_eq chunk.values (pos rows) then chunk_bytes fi
 -- the values of a chunk whose leaf fits, or the first fault
 unfoldable pub chunk_values : List ℕ → ChunkMeta → Wanted → ℕ → Answer (List Value)
 chunk_values file chunk wanted rows =
-    if not (int_eq chunk.codec (pos 0)) then Err fault.Compressed
-    else go (or_else fault.BadParquet (chunk_of file chunk rows)) (λ bytes. pages_at (length bytes) wanted (begun rows) bytes)
+    if not (int_eq chunk.codec UNCOMPRESSED) then Err fault.Compressed
+    else go (or_else fault.BadParquet (chunk_of file chunk rows)) (λ bytes.
+    pages_at (length bytes) wanted (begun rows) bytes)
 
 -- the values, unless their text passes the limit
 abbrev pub within : ℕ → List Value → Answer (List Value)

@@ -7,8 +7,9 @@ use Rattle.dm_types.specs.declared.value.DataType.{DataType}
 use Rattle.dm_types.specs.declared.value.Value.{Value}
 use Rattle.dm_types.specs.declared.value.Value.TheVariants as value
 use Rattle.level_runs.specs.Reading.{runs_of}
-use Rattle.plain_values.specs.Meaning.{Wrong, bytes_at}
+use Rattle.plain_values.specs.Meaning.{bytes_at}
 use Rattle.parquet_meta.specs.Meaning.{page_header_in}
+use Rattle.parquet_meta.specs.declared.numbers.TheConstants.{PLAIN, PLAIN_DICTIONARY, RLE, RLE_DICTIONARY, DATA_PAGE, INDEX_PAGE, DICTIONARY_PAGE}
 use Rattle.parquet_meta.specs.declared.headers.PageHeader.{PageHeader}
 use Rattle.parquet_meta.specs.declared.headers.PageV1.{PageV1}
 use Rattle.parquet_meta.specs.declared.headers.DictionaryPage.{DictionaryPage}
@@ -29,11 +30,6 @@ Answer A = Result A FileFault
 abbrev pub or_else : {A : Type 0} → FileFault → Option A → Answer A
 or_else fault (Some found) = Ok found
 or_else fault None = Err fault
-
--- what is read without a fault
-abbrev pub right : {A : Type 0} → Result A Wrong → Option A
-right (Ok found) = Some found
-right (Err wrong) = None
 
 -- the column that is asked for, and the leaf that holds it
 pub record Wanted : Type 0 where
@@ -63,7 +59,7 @@ levels_at optional count bytes = if optional then rle_levels count bytes else So
 
 -- values in the encoding PLAIN, which the bytes are
 abbrev pub plain_values : LeafSchema → ℕ → List ℕ → Option (List Physical)
-plain_values leaf count bytes = right (plain leaf.physical (unsigned_abs leaf.length) count bytes)
+plain_values leaf count bytes = plain leaf.physical (unsigned_abs leaf.length) count bytes
 
 -- places in the dictionary, as runs behind one byte for their width, which the bytes are
 abbrev pub named_values : List Physical → ℕ → List ℕ → Option (List Physical)
@@ -78,11 +74,11 @@ dictionary_values None count bytes = None
 dictionary_values (Some dictionary) count bytes = if count == 0 then Some [] else named_values dictionary count bytes
 
 abbrev pub is_plain : ℤ → Bool
-is_plain e = int_eq e (pos 0)
+is_plain e = int_eq e PLAIN
 
 -- PLAIN_DICTIONARY and RLE_DICTIONARY
 abbrev pub is_dictionary : ℤ → Bool
-is_dictionary e = int_eq e (pos 2) || int_eq e (pos 8)
+is_dictionary e = int_eq e PLAIN_DICTIONARY || int_eq e RLE_DICTIONARY
 
 abbrev pub page_values : LeafSchema → Option (List Physical) → ℤ → ℕ → List ℕ → Option (List Physical)
 page_values leaf dictionary e count bytes =
@@ -90,7 +86,8 @@ page_values leaf dictionary e count bytes =
 
 -- the encodings that are read: of the levels, RLE
 abbrev pub is_known : Bool → PageV1 → Bool
-is_known optional header = (not optional || int_eq header.definition (pos 3)) && (is_plain header.encoding || is_dictionary header.encoding)
+is_known optional header =
+    (not optional || int_eq header.definition RLE) && (is_plain header.encoding || is_dictionary header.encoding)
 
 abbrev pub null_value : Bool → Option Value
 null_value nullable = if nullable then Some value.Null else None
@@ -106,7 +103,8 @@ column_values wanted page = all_told (map (entry_value wanted) (entries page))
 -- the values of the entries that have these levels and values
 abbrev pub entries_of : Wanted → List ℕ → Option (List Physical) → Answer (List Value)
 entries_of wanted levels values =
-    go (or_else fault.BadParquet values) (λ found. or_else fault.Range (column_values wanted (record { levels = levels; values = found })))
+    go (or_else fault.BadParquet values) (λ found.
+    or_else fault.Range (column_values wanted (record { levels = levels; values = found })))
 
 -- the entries of a data page
 abbrev pub data_page : Wanted → Option (List Physical) → PageV1 → List ℕ → Answer (List Value)
@@ -118,7 +116,7 @@ data_page wanted dictionary header bytes =
 -- the values of a dictionary page, PLAIN, which are judged where a data page names them
 abbrev pub dictionary_page : LeafSchema → DictionaryPage → List ℕ → Answer (List Physical)
 dictionary_page leaf header bytes =
-    if is_plain header.encoding || int_eq header.encoding (pos 2)
+    if is_plain header.encoding || int_eq header.encoding PLAIN_DICTIONARY
     then or_else fault.BadParquet (plain_values leaf (unsigned_abs header.values) bytes)
     else Err fault.Encoding
 
@@ -134,7 +132,8 @@ pub record Cut : Type 0 where
 abbrev pub cut_page : PageHeader → List ℕ → Option Cut
 cut_page header behind =
     if int_le (pos 0) header.packed && int_eq header.packed header.unpacked
-    then option_map (λ parts. record { header = header; body = parts.0; rest = parts.1 }) (bytes_at (unsigned_abs header.packed) behind)
+    then option_map (λ parts. record { header = header; body = parts.0; rest = parts.1 })
+    (bytes_at (unsigned_abs header.packed) behind)
     else None
 
 -- the page at the front of bytes
@@ -153,12 +152,12 @@ dictionary_role first None = None
 dictionary_role first (Some page) =
     if first && int_le (pos 0) page.values then Some (role.Dictionary page) else None
 
--- 0 DATA_PAGE, 1 INDEX_PAGE, 2 DICTIONARY_PAGE; None where the header is at fault
+-- what a page is by its type; None where the header is at fault
 abbrev pub role_of : Bool → ℕ → PageHeader → Option Role
 role_of first left header =
-    if int_eq header.kind (pos 0) then data_role left header.page
-    else if int_eq header.kind (pos 1) then Some role.Index
-    else if int_eq header.kind (pos 2) then dictionary_role first header.dictionary
+    if int_eq header.kind DATA_PAGE then data_role left header.page
+    else if int_eq header.kind INDEX_PAGE then Some role.Index
+    else if int_eq header.kind DICTIONARY_PAGE then dictionary_role first header.dictionary
     else Some role.Unknown
 
 -- where the reading of pages stands
@@ -175,7 +174,8 @@ abbrev pub take_page : Wanted → State → Role → List ℕ → Answer (List V
 take_page wanted state (role.Entries page) body =
     go (data_page wanted state.dictionary page body) (λ values.
     Ok (values, record { first = false; dictionary = state.dictionary; left = state.left - unsigned_abs page.values }))
-take_page wanted state role.Index body = Ok ([], record { first = false; dictionary = state.dictionary; left = state.left })
+take_page wanted state role.Index body =
+    Ok ([], record { first = false; dictionary = state.dictionary; left = state.left })
 take_page wanted state (role.Dictionary page) body =
     go (dictionary_page wanted.leaf page body) (λ values.
     Ok ([], record { first = false; dictionary = Some values; left = state.left }))

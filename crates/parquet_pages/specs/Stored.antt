@@ -10,7 +10,8 @@ use Rattle.dm_types.specs.declared.value.Value.TheVariants as value
 use Rattle.parquet_meta.specs.declared.metadata.Annotation.{Annotation}
 use Rattle.parquet_meta.specs.declared.metadata.LeafSchema.{LeafSchema}
 use Rattle.parquet_meta.specs.declared.metadata.Logical.TheVariants as logical
-use Rattle.parquet_pages.specs.Physical.{Physical, flag, whole_number, raw, boolean, int32, int64, byte_array, fixed_array}
+use Rattle.parquet_pages.specs.Physical.{Physical, flag, whole_number, raw}
+use Rattle.parquet_meta.specs.declared.numbers.TheConstants.{DATE, DECIMAL, INT_8, INT_16, TIMESTAMP_MICROS, UTF8, BOOLEAN, INT32, INT64, BYTE_ARRAY, FIXED_LEN_BYTE_ARRAY}
 
 -- ---- the leaf of a type
 
@@ -28,34 +29,34 @@ abbrev pub decimal_size : ℕ → ℕ
 decimal_size precision = first_that (has_room precision) (range_with_len 1 16)
 
 abbrev pub decimal_type : ℕ → ℕ
-decimal_type precision = if nat_le precision 9 then int32 else if nat_le precision 18 then int64 else fixed_array
+decimal_type precision = if nat_le precision 9 then INT32 else if nat_le precision 18 then INT64 else FIXED_LEN_BYTE_ARRAY
 
 abbrev pub type_of : DataType → ℕ
-type_of kind.Void = boolean
-type_of kind.Boolean = boolean
-type_of kind.Byte = int32
-type_of kind.Short = int32
-type_of kind.Integer = int32
-type_of kind.Long = int64
-type_of kind.Date = int32
-type_of kind.Timestamp = int64
-type_of kind.Str = byte_array
-type_of kind.Binary = byte_array
+type_of kind.Void = BOOLEAN
+type_of kind.Boolean = BOOLEAN
+type_of kind.Byte = INT32
+type_of kind.Short = INT32
+type_of kind.Integer = INT32
+type_of kind.Long = INT64
+type_of kind.Date = INT32
+type_of kind.Timestamp = INT64
+type_of kind.Str = BYTE_ARRAY
+type_of kind.Binary = BYTE_ARRAY
 type_of (kind.Decimal precision scale) = decimal_type precision
 
 -- of a fixed array; 0 for the other types
 abbrev pub length_of : DataType → ℕ
-length_of (kind.Decimal precision scale) = if decimal_type precision == fixed_array then decimal_size precision else 0
+length_of (kind.Decimal precision scale) = if decimal_type precision == FIXED_LEN_BYTE_ARRAY then decimal_size precision else 0
 length_of k = 0
 
--- ConvertedType: 0 UTF8, 5 DECIMAL, 6 DATE, 10 TIMESTAMP_MICROS, 15 INT_8, 16 INT_16
+-- ConvertedType
 abbrev pub converted_of : DataType → Option ℤ
-converted_of kind.Byte = Some (pos 15)
-converted_of kind.Short = Some (pos 16)
-converted_of kind.Date = Some (pos 6)
-converted_of kind.Timestamp = Some (pos 10)
-converted_of kind.Str = Some (pos 0)
-converted_of (kind.Decimal precision scale) = Some (pos 5)
+converted_of kind.Byte = Some INT_8
+converted_of kind.Short = Some INT_16
+converted_of kind.Date = Some DATE
+converted_of kind.Timestamp = Some TIMESTAMP_MICROS
+converted_of kind.Str = Some UTF8
+converted_of (kind.Decimal precision scale) = Some DECIMAL
 converted_of k = None
 
 abbrev pub scale_told : DataType → Option ℤ
@@ -67,7 +68,12 @@ precision_told (kind.Decimal precision scale) = Some (pos precision)
 precision_told k = None
 
 abbrev pub annotation_of : DataType → Annotation
-annotation_of k = record { converted = converted_of k; scale = scale_told k; precision = precision_told k; logical = logical.Absent }
+annotation_of k = record {
+  converted = converted_of k;
+  scale = scale_told k;
+  precision = precision_told k;
+  logical = logical.Absent;
+}
 
 -- an OPTIONAL leaf directly below the root
 abbrev pub leaf_of : List ℕ → Option ℤ → DataType → LeafSchema
@@ -97,7 +103,9 @@ levels_of values = map level_of values
 
 abbrev pub decimal_stored : ℕ → ℤ → Physical
 decimal_stored precision n =
-    if decimal_type precision == fixed_array then raw (big_bytes (decimal_size precision) (low_bytes w128 (decimal_size precision) n)) else whole_number n
+    if decimal_type precision == FIXED_LEN_BYTE_ARRAY
+    then raw (big_bytes (decimal_size precision) (low_bytes w128 (decimal_size precision) n))
+    else whole_number n
 
 -- how a value of a type stands in a page
 abbrev pub stored : DataType → Value → Physical

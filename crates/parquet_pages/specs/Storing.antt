@@ -1,5 +1,5 @@
 -- How the values of a column go into the lists that are written.
-use Rattle.std.specs.Prelude.{◌≡◌, ⊤, ℕ, ◌+◌, ◌*◌, ◌^◌, ◌<◌, ◌≤◌, ◌==◌, if◌then◌else◌, List, [], ◌∷◌, ◌++◌, length, All, FitsSigned, ◌⊎◌, Option, Some, None, Ok}
+use Rattle.std.specs.Prelude.{◌≡◌, ⊤, ℕ, ◌+◌, ◌*◌, ◌^◌, ◌<◌, ◌≤◌, ◌==◌, if◌then◌else◌, List, [], ◌∷◌, ◌++◌, length, All, FitsSigned, ◌⊎◌, Option, Some, None}
 use Rattle.std.specs.List.{sum_by}
 use Rattle.std.specs.Int.{w32, w64}
 use Rattle.column_vectors.specs.Cells.{Cells}
@@ -10,10 +10,11 @@ use Rattle.level_runs.specs.Runs.{MeansRuns}
 use Rattle.parquet_meta.specs.Meaning.{page_header_in}
 use Rattle.parquet_meta.specs.Written.{header_fields}
 use Rattle.parquet_meta.specs.declared.headers.PageHeader.{PageHeader}
-use Rattle.parquet_pages.specs.Physical.{Physical, flag, whole_number, raw, boolean, int32, int64, int96, byte_array, fixed_array, plain}
-use Rattle.parquet_pages.specs.Stored.{is_full, length_of, levels_of, stored, stored_values, type_of}
+use Rattle.parquet_pages.specs.Physical.{Physical, flag, whole_number, raw, plain, plain_bytes}
+use Rattle.parquet_meta.specs.declared.numbers.TheConstants.{BOOLEAN, INT32, INT64, BYTE_ARRAY, FIXED_LEN_BYTE_ARRAY}
+use Rattle.parquet_pages.specs.Stored.{is_full, levels_of, stored, stored_values, type_of}
 use Rattle.parquet_pages.specs.Views.{physicals}
-use Rattle.parquet_pages.specs.Writing.{page_bytes, page_header}
+use Rattle.parquet_pages.specs.Writing.{ArePlain, page_bytes, page_header}
 use Rattle.parquet_pages.specs.declared.physical.PlainList.{PlainList}
 use Rattle.parquet_pages.specs.declared.physical.PlainList.TheVariants as list
 use Rattle.parquet_pages.specs.declared.stored.StoredColumn.{StoredColumn}
@@ -34,20 +35,19 @@ told k v = if is_full v then Some (stored k v) else None
 
 -- arrays of bytes are kept alike
 abbrev pub form : ℕ → ℕ
-form type = if type == fixed_array then byte_array else type
+form type = if type == FIXED_LEN_BYTE_ARRAY then BYTE_ARRAY else type
 
 abbrev pub form_of : PlainList → ℕ
-form_of (list.Flags flags) = boolean
-form_of (list.Whole32 numbers) = int32
-form_of (list.Whole64 numbers) = int64
-form_of (list.Int96 values) = int96
-form_of (list.Raw values) = byte_array
+form_of (list.Flags flags) = BOOLEAN
+form_of (list.Whole32 numbers) = INT32
+form_of (list.Whole64 numbers) = INT64
+form_of (list.Raw values) = BYTE_ARRAY
 
 -- a value that goes into a list
 abbrev pub IsOfForm : ℕ → Physical → Type 0
-IsOfForm f (flag b) = f ≡ boolean
-IsOfForm f (whole_number n) = ((f ≡ int32) × FitsSigned w32 n) ⊎ ((f ≡ int64) × FitsSigned w64 n)
-IsOfForm f (raw bytes) = f ≡ byte_array
+IsOfForm f (flag b) = f ≡ BOOLEAN
+IsOfForm f (whole_number n) = ((f ≡ INT32) × FitsSigned w32 n) ⊎ ((f ≡ INT64) × FitsSigned w64 n)
+IsOfForm f (raw bytes) = f ≡ BYTE_ARRAY
 
 abbrev pub level : Option Physical → ℕ
 level None = 0
@@ -73,21 +73,24 @@ raw_size v = 0
 
 -- an array of bytes has a length that fits; a fixed array has the length of its leaf
 abbrev pub CanStand : ℕ → ℕ → Physical → Type 0
-CanStand type size (raw bytes) = (type ≡ byte_array → length bytes < 2 ^ 32) × (type ≡ fixed_array → length bytes ≡ size)
+CanStand type size (raw bytes) = (type ≡ BYTE_ARRAY → length bytes < 2 ^ 32) × (type ≡ FIXED_LEN_BYTE_ARRAY → length bytes ≡ size)
 CanStand type size v = ⊤
 
--- values went to the end, PLAIN: they are read as these, and take at most 8 bytes each beside their own
+-- values went to the end, each in the bytes of its physical type: they are read as these, and take at most 8 bytes each beside their own
 pub record AppendsPlain (type size : ℕ) (values : List Physical) (old new : List ℕ) : Type 0 where
   pub written : List ℕ
   pub joined : new ≡ old ++ written
-  pub again : plain type size (length values) written ≡ Ok values
+  pub spelled : written ≡ plain_bytes type values
+  pub again : plain type size (length values) written ≡ Some values
   pub short : length written ≤ 8 * length values + sum_by raw_size values
 
 -- ---- pages that are written
 
 -- a header is read of its bytes, whatever follows
 abbrev pub IsHeaderRead : PageHeader → Type 0
-IsHeaderRead header = (more : List ℕ) → page_header_in (struct_bytes (header_fields header) ++ more) ≡ Some (header, length (struct_bytes (header_fields header)))
+IsHeaderRead header =
+    (more : List ℕ) → page_header_in (struct_bytes (header_fields header) ++ more)
+    ≡ Some (header, length (struct_bytes (header_fields header)))
 
 -- the header of a page with these levels and values
 abbrev pub header_of : ℕ → List ℕ → List ℕ → PageHeader
@@ -98,7 +101,8 @@ pub record IsPage (column : Cells) (page : List ℕ) : Type 0 where
   pub levels : List ℕ
   pub values : List ℕ
   pub runs : MeansRuns 1 (length column.values) levels (levels_of column.values)
-  pub plain : plain (type_of column.kind) (length_of column.kind) (length (stored_values column.kind column.values)) values ≡ Ok (stored_values column.kind column.values)
+  pub spelled : values ≡ plain_bytes (type_of column.kind) (stored_values column.kind column.values)
+  pub plain : ArePlain column values
   pub joined : page ≡ page_bytes (length column.values) levels values
   pub header : IsHeaderRead (header_of (length column.values) levels values)
   pub size : 4 + length levels + length values < 2 ^ 31

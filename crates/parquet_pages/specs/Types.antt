@@ -6,15 +6,18 @@ use Rattle.std.specs.Str.{is_utf8}
 use Rattle.byteorder.specs.Endian.{big_number, little_number, twos_complement}
 use Rattle.dm_types.specs.Lanes.{is_within}
 use Rattle.dm_types.specs.Ranges.{is_day, day_part}
+use Rattle.dm_types.specs.declared.value.TheConstants.{DAY_MICROS}
 use Rattle.dm_types.specs.declared.value.DataType.{DataType}
 use Rattle.dm_types.specs.declared.value.DataType.TheVariants as kind
 use Rattle.dm_types.specs.declared.value.Value.{Value}
 use Rattle.dm_types.specs.declared.value.Value.TheVariants as value
+use Rattle.parquet_meta.specs.declared.numbers.TheConstants.{DECIMAL, TIMESTAMP_MILLIS, TIMESTAMP_MICROS, MILLIS, MICROS}
 use Rattle.parquet_meta.specs.declared.metadata.Annotation.{Annotation}
 use Rattle.parquet_meta.specs.declared.metadata.LeafSchema.{LeafSchema}
 use Rattle.parquet_meta.specs.declared.metadata.Logical.{Logical}
 use Rattle.parquet_meta.specs.declared.metadata.Logical.TheVariants as logical
-use Rattle.parquet_pages.specs.Physical.{Physical, flag, whole_number, raw, boolean, int32, int64, int96, byte_array, fixed_array}
+use Rattle.parquet_pages.specs.Physical.{Physical, flag, whole_number, raw}
+use Rattle.parquet_meta.specs.declared.numbers.TheConstants.{BOOLEAN, INT32, INT64, INT96, BYTE_ARRAY, FIXED_LEN_BYTE_ARRAY}
 
 -- ---- annotations
 
@@ -26,7 +29,7 @@ converts wanted (Some told) = int_eq told wanted
 -- the scale of a leaf that is annotated DECIMAL
 abbrev pub annotated_scale : Logical → Option ℤ → Option ℤ
 annotated_scale (logical.Decimal scale) converted = Some scale
-annotated_scale _ converted = if converts (pos 5) converted then Some (pos 0) else None
+annotated_scale _ converted = if converts DECIMAL converted then Some (pos 0) else None
 
 abbrev pub told_scale : Option ℤ → Option ℤ → Option ℤ
 told_scale (Some scale) annotated = Some scale
@@ -42,12 +45,12 @@ has_scale wanted (Some scale) = int_eq scale (pos wanted)
 
 -- how many microseconds a unit of time has
 abbrev pub unit_micros : ℕ → Option ℕ
-unit_micros unit = if unit == 1 then Some 1000 else if unit == 2 then Some 1 else None
+unit_micros unit = if unit == MILLIS then Some 1000 else if unit == MICROS then Some 1 else None
 
 abbrev pub converted_micros : Option ℤ → Option ℕ
 converted_micros converted =
-    if converts (pos 9) converted then Some 1000
-    else if converts (pos 10) converted then Some 1
+    if converts TIMESTAMP_MILLIS converted then Some 1000
+    else if converts TIMESTAMP_MICROS converted then Some 1
     else None
 
 -- of a moment in INT64: the unit of the logical type where one is told, else of the converted type
@@ -64,22 +67,24 @@ is_told (Some unit) = true
 
 abbrev pub holds_decimal : ℕ → LeafSchema → Bool
 holds_decimal scale leaf =
-    (leaf.physical == int32 || leaf.physical == int64 || leaf.physical == byte_array || leaf.physical == fixed_array) && has_scale scale (scale_of leaf.annotation)
+    (leaf.physical == INT32 || leaf.physical == INT64 || leaf.physical == BYTE_ARRAY || leaf.physical == FIXED_LEN_BYTE_ARRAY)
+    && has_scale scale (scale_of leaf.annotation)
 
 abbrev pub holds_moment : LeafSchema → Bool
-holds_moment leaf = leaf.physical == int96 || leaf.physical == int64 && is_told (micros_of leaf.annotation.logical leaf.annotation.converted)
+holds_moment leaf =
+    leaf.physical == INT96 || leaf.physical == INT64 && is_told (micros_of leaf.annotation.logical leaf.annotation.converted)
 
 abbrev pub holds : DataType → LeafSchema → Bool
 holds kind.Void leaf = false
-holds kind.Boolean leaf = leaf.physical == boolean
-holds kind.Byte leaf = leaf.physical == int32
-holds kind.Short leaf = leaf.physical == int32
-holds kind.Integer leaf = leaf.physical == int32
-holds kind.Long leaf = leaf.physical == int64
-holds kind.Date leaf = leaf.physical == int32
+holds kind.Boolean leaf = leaf.physical == BOOLEAN
+holds kind.Byte leaf = leaf.physical == INT32
+holds kind.Short leaf = leaf.physical == INT32
+holds kind.Integer leaf = leaf.physical == INT32
+holds kind.Long leaf = leaf.physical == INT64
+holds kind.Date leaf = leaf.physical == INT32
 holds kind.Timestamp leaf = holds_moment leaf
-holds kind.Str leaf = leaf.physical == byte_array
-holds kind.Binary leaf = leaf.physical == byte_array
+holds kind.Str leaf = leaf.physical == BYTE_ARRAY
+holds kind.Binary leaf = leaf.physical == BYTE_ARRAY
 holds (kind.Decimal precision scale) leaf = holds_decimal scale leaf
 
 -- a leaf directly below the root, not repeated, of which the type is read
@@ -102,18 +107,20 @@ abbrev pub moment : ℤ → Option Value
 moment micros = where_it (is_day (day_part micros)) (value.Micros micros)
 
 abbrev pub decimal : ℕ → ℕ → ℤ → Option Value
-decimal precision scale n = where_it (nat_lt (unsigned_abs n) (10 ^ precision)) (value.Dec (record { unscaled = n; scale = scale }))
+decimal precision scale n =
+    where_it (nat_lt (unsigned_abs n) (10 ^ precision)) (value.Dec (record { unscaled = n; scale = scale }))
 
 -- the nanoseconds of a day and a Julian day; what is below a microsecond is dropped
 abbrev pub julian_moment : ℕ → ℕ → Option Value
 julian_moment nanos day =
     if nat_lt nanos 86_400_000_000_000
-    then moment ((pos day -ℤ pos 2_440_588) *ℤ pos 86_400_000_000 +ℤ pos (nanos / 1000))
+    then moment ((pos day -ℤ pos 2_440_588) *ℤ DAY_MICROS +ℤ pos (nanos / 1000))
     else None
 
 -- INT96: eight bytes and four, little endian
 abbrev pub int96_moment : List ℕ → Option Value
-int96_moment bytes = if length bytes == 12 then julian_moment (little_number 8 bytes) (little_number 4 (drop 8 bytes)) else None
+int96_moment bytes =
+    if length bytes == 12 then julian_moment (little_number 8 bytes) (little_number 4 (drop 8 bytes)) else None
 
 -- big endian, two's complement
 abbrev pub signed_number : List ℕ → ℤ

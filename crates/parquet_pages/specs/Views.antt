@@ -30,13 +30,13 @@ abbrev pub physicals : PlainList → List Physical
 physicals (plain.Flags flags) = map flag flags
 physicals (plain.Whole32 numbers) = map whole_number numbers
 physicals (plain.Whole64 numbers) = map whole_number numbers
-physicals (plain.Int96 values) = map raw values
 physicals (plain.Raw values) = map raw values
 
 -- the values of a page
 abbrev pub page_values : PageValues → List Physical
 page_values (page.Own values) = physicals values
 page_values (page.Lent arrays) = map raw (lent_values arrays)
+page_values (page.Fixed arrays) = map raw arrays
 
 -- the level of each entry
 abbrev pub level_list : Levels → List ℕ
@@ -53,7 +53,11 @@ abbrev pub wanted : Reading → LeafSchema → Wanted
 wanted reading leaf = record { kind = reading.kind; nullable = reading.nullable; leaf = leaf }
 
 abbrev pub state_of : Progress → State
-state_of progress = record { first = progress.first; dictionary = option_map page_values progress.dictionary; left = progress.left }
+state_of progress = record {
+  first = progress.first;
+  dictionary = option_map page_values progress.dictionary;
+  left = progress.left;
+}
 
 abbrev pub cut_of : lent.Cut → Cut
 cut_of page = record { header = page.header; body = page.body.now; rest = page.rest.now }

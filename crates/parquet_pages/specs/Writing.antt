@@ -12,7 +12,8 @@ use Rattle.parquet_meta.specs.declared.headers.PageHeader.{PageHeader}
 use Rattle.parquet_meta.specs.declared.metadata.ChunkMeta.{ChunkMeta}
 use Rattle.parquet_pages.specs.Chunk.{chunk_values}
 use Rattle.parquet_pages.specs.Kept.{text_size}
-use Rattle.parquet_pages.specs.Physical.{plain}
+use Rattle.parquet_pages.specs.Physical.{plain, plain_bytes}
+use Rattle.parquet_meta.specs.declared.numbers.TheConstants.{PLAIN, RLE, DATA_PAGE, UNCOMPRESSED}
 use Rattle.parquet_pages.specs.Stored.{leaf_of, length_of, levels_of, stored_values, type_of}
 use Rattle.thrift_compact.specs.Written.{struct as struct_bytes}
 
@@ -27,10 +28,10 @@ pub record IsWritableColumn (column : Cells) : Type 0 where
 -- the header of a data page V1 of so many entries, in PLAIN with levels in RLE
 abbrev pub page_header : ℕ → ℕ → PageHeader
 page_header rows size = record {
-  kind = pos 0;
+  kind = DATA_PAGE;
   unpacked = pos size;
   packed = pos size;
-  page = Some (record { values = pos rows; encoding = pos 0; definition = pos 3; repetition = pos 3 });
+  page = Some (record { values = pos rows; encoding = PLAIN; definition = RLE; repetition = RLE });
   dictionary = None;
   page_v2 = None;
 }
@@ -38,16 +39,17 @@ page_header rows size = record {
 -- a page: its header, the levels behind their length in four bytes, and the values
 abbrev pub page_bytes : ℕ → List ℕ → List ℕ → List ℕ
 page_bytes rows levels values =
-    struct_bytes (header_fields (page_header rows (4 + length levels + length values))) ++ little_bytes 4 (length levels) ++ levels ++ values
+    struct_bytes (header_fields (page_header rows (4 + length levels + length values)))
+    ++ little_bytes 4 (length levels) ++ levels ++ values
 
 -- the chunk of a page: one for the whole column, uncompressed, in the encodings PLAIN and RLE
 abbrev pub chunk_meta : Cells → ℕ → ℕ → ChunkMeta
 chunk_meta column start size = record {
   external = false;
   physical = pos (type_of column.kind);
-  encodings = pos 0 ∷ pos 3 ∷ [];
+  encodings = PLAIN ∷ RLE ∷ [];
   path = [];
-  codec = pos 0;
+  codec = UNCOMPRESSED;
   values = pos (length column.values);
   unpacked = pos size;
   packed = pos size;
@@ -55,12 +57,19 @@ chunk_meta column start size = record {
   dictionary_at = None;
 }
 
--- a page went to the end: its levels are runs of width 1, and its values are PLAIN
+-- the values of a column are read of these bytes, as values of the leaf's physical type
+abbrev pub ArePlain : Cells → List ℕ → Type 0
+ArePlain column bytes =
+    let values = stored_values column.kind column.values in
+    plain (type_of column.kind) (length_of column.kind) (length values) bytes ≡ Some values
+
+-- a page went to the end: its levels are runs of width 1, and its values are PLAIN, each in the bytes of its physical type
 pub record WritesChunk (column : Cells) (old new : List ℕ) (meta : ChunkMeta) : Type 0 where
   pub levels : List ℕ
   pub values : List ℕ
   pub runs : MeansRuns 1 (length column.values) levels (levels_of column.values)
-  pub plain : plain (type_of column.kind) (length_of column.kind) (length (stored_values column.kind column.values)) values ≡ Ok (stored_values column.kind column.values)
+  pub spelled : values ≡ plain_bytes (type_of column.kind) (stored_values column.kind column.values)
+  pub plain : ArePlain column values
   pub joined : new ≡ old ++ page_bytes (length column.values) levels values
   pub told : meta ≡ chunk_meta column (length old) (length (page_bytes (length column.values) levels values))
 
@@ -72,4 +81,6 @@ TakesNulls nullable values = All (λ v. v ≡ value.Null → nullable ≡ true) 
 abbrev pub IsReadBack : Cells → List ℕ → ChunkMeta → Type 0
 IsReadBack column file meta =
     (more name : List ℕ) (field_id : Option ℤ) (nullable : Bool) → TakesNulls nullable column.values
-    → chunk_values (file ++ more) meta (record { kind = column.kind; nullable = nullable; leaf = leaf_of name field_id column.kind }) (length column.values) ≡ Ok column.values
+    → let leaf = leaf_of name field_id column.kind in
+    chunk_values (file ++ more) meta (record { kind = column.kind; nullable = nullable; leaf = leaf }) (length column.values)
+    ≡ Ok column.values

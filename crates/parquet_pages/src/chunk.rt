@@ -3,12 +3,13 @@ ghost use Rattle.std.specs.Prelude.{◌≡◌, Some};
 ghost use Rattle.std.specs.Option.{option_copied};
 ghost use Rattle.parquet_pages.specs.Chunk as spec;
 ghost use Rattle.parquet_pages.specs.Kept.{IsReading};
-ghost use Rattle.parquet_pages.specs.Taking.{Takes};
+ghost use Rattle.parquet_pages.specs.Taking.{GoesInto};
 ghost use Rattle.parquet_pages.specs.Views.{wanted};
 
 use crate::fault::FileFault;
 use crate::kept::Reading;
 use crate::pages::take_pages;
+use parquet_meta::numbers::UNCOMPRESSED;
 use parquet_meta::{ChunkMeta, LeafSchema};
 use std::alloc::Global;
 
@@ -54,9 +55,9 @@ pub(crate) fn take_chunk(
     rows: usize,
 ) -> Result<(), FileFault>
     requires { IsReading reading.old }
-    ensures { Takes (spec.chunk_values file.now chunk.now (wanted reading.old leaf.now) rows) reading.old reading.new result }
+    ensures { GoesInto (spec.chunk_values file.now chunk.now (wanted reading.old leaf.now) rows) reading.old reading.new result }
 {
-    if chunk.codec != 0 {
+    if chunk.codec != UNCOMPRESSED {
         return Err(FileFault::Compressed);
     }
     match chunk_of(file, chunk, rows) {

@@ -6,7 +6,7 @@ ghost use Rattle.parquet_pages.specs.Kept.{grown, IsKeptOf, IsReading};
 ghost use Rattle.parquet_pages.specs.Pages.{or_else, column_values, entry_value, null_value};
 ghost use Rattle.parquet_pages.specs.Physical.{Physical};
 ghost use Rattle.parquet_pages.specs.Places.{entry_with};
-ghost use Rattle.parquet_pages.specs.Taking.{Takes, TakesOne};
+ghost use Rattle.parquet_pages.specs.Taking.{GoesInto, OneGoesInto};
 ghost use Rattle.parquet_pages.specs.Types.{plain_value, text_of, value_of};
 ghost use Rattle.parquet_pages.specs.Views.{chosen, level_list, page_values, seen, wanted};
 ghost use Rattle.parquet_pages.specs.declared.fault.FileFault.TheVariants.{Range};
@@ -47,7 +47,7 @@ fn keep_bytes(alloc: Global, kept: &mut Option<KeptColumn>, bytes: &[u8]) -> Res
 // Adds the text that bytes spell.
 fn take_text(alloc: Global, reading: &mut Reading, bytes: &[u8]) -> Result<(), FileFault>
     requires { IsKeptOf Str reading.old.kept }
-    ensures { TakesOne (text_of bytes.now) reading.old reading.new result }
+    ensures { OneGoesInto (text_of bytes.now) reading.old reading.new result }
 {
     match str::from_utf8(bytes) {
         Ok(text) => Ok(keep_text(alloc, &mut reading.kept, text)?),
@@ -62,7 +62,7 @@ fn take_plain(
     value: PlainValue<'_>,
 ) -> Result<(), FileFault>
     requires { IsReading reading.old }
-    ensures { TakesOne (plain_value reading.old.kind annotation.now (seen value.entry)) reading.old reading.new result }
+    ensures { OneGoesInto (plain_value reading.old.kind annotation.now (seen value.entry)) reading.old reading.new result }
 {
     match plain_value(&reading.kind, annotation, value) {
         Some(found) => Ok(keep(&mut reading.kept, found)?),
@@ -78,7 +78,7 @@ fn take_value(
     value: PlainValue<'_>,
 ) -> Result<(), FileFault>
     requires { IsReading reading.old }
-    ensures { TakesOne (value_of reading.old.kind annotation.now (seen value.entry)) reading.old reading.new result }
+    ensures { OneGoesInto (value_of reading.old.kind annotation.now (seen value.entry)) reading.old reading.new result }
 {
     match (reading.kind, value) {
         (DataType::Str, PlainValue::Raw(bytes)) => take_text(alloc, reading, bytes),
@@ -91,7 +91,7 @@ fn take_value(
 
 // Adds a null.
 fn take_null(reading: &mut Reading) -> Result<(), FileFault>
-    ensures { TakesOne (null_value reading.old.nullable) reading.old reading.new result }
+    ensures { OneGoesInto (null_value reading.old.nullable) reading.old reading.new result }
 {
     if !reading.nullable {
         return Err(FileFault::Range);
@@ -125,7 +125,7 @@ fn take_entry(
     entry: Option<PlainValue<'_>>,
 ) -> Result<(), FileFault>
     requires { IsReading reading.old }
-    ensures { TakesOne (entry_value (wanted reading.old leaf.now) (option_map seen entry.entry)) reading.old reading.new result }
+    ensures { OneGoesInto (entry_value (wanted reading.old leaf.now) (option_map seen entry.entry)) reading.old reading.new result }
 {
     match entry {
         Some(value) => take_value(alloc, reading, &leaf.annotation, value),
@@ -144,7 +144,7 @@ pub(crate) fn take_entries(
 ) -> Result<(), FileFault>
     requires { IsReading reading.old }
     ensures { (named : List Physical) → chosen (page_values values.now) order.now ≡ Some named
-        → Takes (or_else Range (column_values (wanted reading.old leaf.now) (record { levels = level_list levels.now; values = named })))
+        → GoesInto (or_else Range (column_values (wanted reading.old leaf.now) (record { levels = level_list levels.now; values = named })))
         reading.old reading.new result }
 {
     let mut before = 0;

@@ -25,7 +25,7 @@ pub(crate) struct Reading {
     pub(crate) kept: Option<KeptColumn>,
 }
 
-/// Takes room for text. Where there is too little, nothing is kept from then on.
+/// GoesInto room for text. Where there is too little, nothing is kept from then on.
 pub(crate) fn take_room(kept: &mut Option<KeptColumn>, size: usize)
     ensures { kept.new ≡ roomed size kept.old }
 {

@@ -1,25 +1,19 @@
 // The leaf that a column of a type is written as (LogicalTypes.md; parquet.thrift, `SchemaElement`).
 ghost use Rattle.std.specs.Prelude.{◌≡◌, ◌≤◌, pos};
+ghost use Rattle.dm_types.specs.declared.value.TheConstants.{MAX_PRECISION};
 ghost use Rattle.dm_types.specs.Ranges.{IsWellFormed};
 ghost use Rattle.parquet_pages.specs.Stored as spec;
 
 use dm_types::{DataType, ten_to};
+use parquet_meta::numbers::{
+    BOOLEAN, BYTE_ARRAY, DATE, DECIMAL, FIXED_LEN_BYTE_ARRAY, INT_8, INT_16, INT32, INT64,
+    TIMESTAMP_MICROS, UTF8,
+};
 use parquet_meta::{Annotation, Logical};
-
-/// The types of parquet.thrift, `Type`, that columns are written in.
-const BOOLEAN: u8 = 0;
-
-const INT32: u8 = 1;
-
-const INT64: u8 = 2;
-
-const BYTE_ARRAY: u8 = 6;
-
-pub(crate) const FIXED_LEN_BYTE_ARRAY: u8 = 7;
 
 /// The least number of bytes with room for each number of so many digits, in two's complement.
 pub(crate) fn decimal_size(precision: u8) -> usize
-    requires { precision ≤ 38 }
+    requires { precision ≤ MAX_PRECISION }
     ensures least { result ≡ spec.decimal_size precision }
     ensures some { 1 ≤ result }
     ensures within { result ≤ 16 }
@@ -72,12 +66,12 @@ fn converted_of(kind: &DataType) -> Option<i32>
     ensures { result ≡ spec.converted_of kind.now }
 {
     match kind {
-        DataType::Str => Some(0),
-        DataType::Decimal { .. } => Some(5),
-        DataType::Date => Some(6),
-        DataType::Timestamp => Some(10),
-        DataType::Byte => Some(15),
-        DataType::Short => Some(16),
+        DataType::Str => Some(UTF8),
+        DataType::Decimal { .. } => Some(DECIMAL),
+        DataType::Date => Some(DATE),
+        DataType::Timestamp => Some(TIMESTAMP_MICROS),
+        DataType::Byte => Some(INT_8),
+        DataType::Short => Some(INT_16),
         _ => None,
     }
 }

@@ -5,6 +5,7 @@ mod chunk;
 mod entries;
 mod fault;
 mod kept;
+pub mod laws;
 mod leaf;
 mod levels;
 mod lists;
@@ -18,11 +19,6 @@ mod values;
 mod writing;
 
 pub use fault::FileFault;
-pub use reader::{ColumnReader, columns_grow, read_chunk};
+pub use reader::{ColumnReader, read_chunk};
 pub use types::fits;
 pub use writing::{leaf_for, write_chunk};
-
-#[cfg(test)]
-mod tests;
-#[cfg(test)]
-mod writing_tests;

@@ -4,12 +4,12 @@ ghost use Rattle.parquet_pages.specs.Stored.{length_of, type_of};
 ghost use Rattle.parquet_pages.specs.Storing.{AppendsPlain, CanStand, form, form_of};
 ghost use Rattle.parquet_pages.specs.Views.{physicals};
 
-use crate::leaf::{FIXED_LEN_BYTE_ARRAY, type_of};
+use crate::leaf::type_of;
 use crate::physical::PlainList;
 use dm_types::{Bytes, DataType};
+use parquet_meta::numbers::FIXED_LEN_BYTE_ARRAY;
 use plain_values::{
-    Plain, PlainBoolean, PlainByteArray, PlainFixed, PlainInt32, PlainInt64, plain_again,
-    write_plain,
+    Plain, PlainBoolean, PlainByteArray, PlainFixed, PlainInt32, PlainInt64, laws, write_plain,
 };
 use std::alloc::{AllocError, Global};
 
@@ -25,7 +25,7 @@ fn write_list<T: Plain>(
         → T.plain_of length (T.count_of values.now) (T.spelling values.now) ≡ Ok values.now) }
     ensures err { OnErr result (out.new ≡ out.old) }
 {
-    plain_again::<T>();
+    laws::plain_again::<T>();
     write_plain::<T>(alloc, values, out)
 }
 
@@ -38,14 +38,14 @@ pub(crate) fn write_values(
 ) -> Result<(), AllocError>
     requires form { form_of values.now ≡ form (type_of kind.now) }
     requires stand { All (CanStand (type_of kind.now) (length_of kind.now)) (physicals values.now) }
-    ensures ok { OnOk result (AppendsPlain (type_of kind.now) (length_of kind.now) (physicals values.now) out.old out.new) }
+    ensures ok { OnOk result
+        (AppendsPlain (type_of kind.now) (length_of kind.now) (physicals values.now) out.old out.new) }
     ensures err { OnErr result (out.new ≡ out.old) }
 {
     match values {
         PlainList::Flags(flags) => write_list::<PlainBoolean>(alloc, flags, out),
         PlainList::Whole32(numbers) => write_list::<PlainInt32>(alloc, numbers, out),
         PlainList::Whole64(numbers) => write_list::<PlainInt64>(alloc, numbers, out),
-        PlainList::Int96(_) => unreachable!(),
         PlainList::Raw(arrays) => {
             if type_of(kind) == FIXED_LEN_BYTE_ARRAY {
                 write_list::<PlainFixed>(alloc, arrays, out)

@@ -1,5 +1,6 @@
 // The value that a physical one is in a column of a type.
 ghost use Rattle.std.specs.Prelude.{◌≡◌, ◌^◌, ◌≤◌, pos, unsigned_abs, MatchOption, Some, None};
+ghost use Rattle.dm_types.specs.declared.value.TheConstants.{MAX_PRECISION};
 ghost use Rattle.dm_types.specs.Ranges.{IsWellFormed};
 ghost use Rattle.parquet_pages.specs.Numbers as numbers;
 ghost use Rattle.parquet_pages.specs.Numbers.{IsSignedNumber, appended};
@@ -9,18 +10,23 @@ ghost use Rattle.parquet_pages.specs.Views.{seen};
 use crate::physical::PlainValue;
 use crate::types::micros_of;
 use byteorder::{ByteOrder, LittleEndian};
-use dm_types::{DataType, Decimal, Value, ten_to};
+use dm_types::{DAY_MICROS, DataType, Decimal, FIRST_DAY, LAST_DAY, Value, ten_to};
 use parquet_meta::Annotation;
 
 /// Microseconds of a day.
-const DAY: i128 = 86_400_000_000;
+const DAY: i128 = DAY_MICROS as i128;
+
+/// The first and the last day of the years 1 to 9999.
+const FIRST: i128 = FIRST_DAY as i128;
+
+const LAST: i128 = LAST_DAY as i128;
 
 // A moment of the years 1 to 9999.
 fn moment(micros: i128) -> Option<Value>
     ensures { result ≡ spec.moment micros }
 {
     let day = micros.div_euclid(DAY);
-    if (-719_162..=2_932_896).contains(&day) {
+    if (FIRST..=LAST).contains(&day) {
         Some(Value::Micros(micros as i64))
     } else {
         None
@@ -61,7 +67,7 @@ fn int96_moment(bytes: &[u8]) -> Option<Value>
 
 // A decimal of at most `precision` digits.
 fn decimal(precision: u8, scale: u8, unscaled: i128) -> Option<Value>
-    requires { precision ≤ 38 }
+    requires { precision ≤ MAX_PRECISION }
     ensures { result ≡ spec.decimal precision scale unscaled }
 {
     if unscaled.unsigned_abs() < ten_to(precision) {
@@ -108,7 +114,7 @@ fn signed_number(bytes: &[u8]) -> Option<i128>
 
 // A decimal whose number is spelled by bytes.
 fn raw_decimal(precision: u8, scale: u8, bytes: &[u8]) -> Option<Value>
-    requires { precision ≤ 38 }
+    requires { precision ≤ MAX_PRECISION }
     ensures { result ≡ spec.decimal precision scale (spec.signed_number bytes.now) }
 {
     let unscaled = signed_number(bytes)?;
@@ -140,7 +146,7 @@ fn long(number: i64) -> Option<Value>
 fn day(number: i64) -> Option<Value>
     ensures { result ≡ spec.day_of number }
 {
-    if (-719_162..=2_932_896).contains(&number) {
+    if (i64::from(FIRST_DAY)..=i64::from(LAST_DAY)).contains(&number) {
         Some(Value::Day(number as i32))
     } else {
         None

@@ -5,7 +5,7 @@ ghost use Rattle.parquet_pages.specs.Answers.{Gives, GivesBody};
 ghost use Rattle.parquet_pages.specs.Kept.{IsReading};
 ghost use Rattle.parquet_pages.specs.Pages as spec;
 ghost use Rattle.parquet_pages.specs.Physical.{Physical};
-ghost use Rattle.parquet_pages.specs.Taking.{Takes, TakesPage};
+ghost use Rattle.parquet_pages.specs.Taking.{GoesInto, PageGoesInto};
 ghost use Rattle.parquet_pages.specs.Entries.{full};
 ghost use Rattle.parquet_pages.specs.Views.{cut_of, level_list, page_values, state_of, wanted};
 ghost use Rattle.parquet_pages.specs.declared.fault.FileFault.TheVariants.{BadParquet};
@@ -17,19 +17,11 @@ use crate::kept::Reading;
 use crate::levels::{Levels, read_levels};
 use crate::physical::{PageValues, read_values};
 use crate::values::{Order, read_order};
-use parquet_meta::{
-    DictionaryPage, LeafSchema, PageHeader, PageV1, page_headers_are_read, read_page_header,
+use parquet_meta::numbers::{
+    DATA_PAGE, DICTIONARY_PAGE, INDEX_PAGE, PLAIN, PLAIN_DICTIONARY, RLE, RLE_DICTIONARY,
 };
+use parquet_meta::{DictionaryPage, LeafSchema, PageHeader, PageV1, laws, read_page_header};
 use std::alloc::Global;
-
-/// The encodings of parquet.thrift, `Encoding`.
-const PLAIN: i32 = 0;
-
-const PLAIN_DICTIONARY: i32 = 2;
-
-const RLE: i32 = 3;
-
-const RLE_DICTIONARY: i32 = 8;
 
 /// Where the reading of pages stands.
 #[derive(Drop)]
@@ -76,7 +68,7 @@ fn take_plain(
     bytes: &[u8],
 ) -> Result<(), FileFault>
     requires { IsReading reading.old }
-    ensures { Takes (spec.entries_of (wanted reading.old leaf.now) (level_list levels.now)
+    ensures { GoesInto (spec.entries_of (wanted reading.old leaf.now) (level_list levels.now)
         (spec.plain_values leaf.now (full (level_list levels.now)) bytes.now)) reading.old reading.new result }
 {
     let values = read_values(alloc, leaf, bytes, levels.count_full())?;
@@ -93,7 +85,7 @@ fn take_named(
     bytes: &[u8],
 ) -> Result<(), FileFault>
     requires { IsReading reading.old }
-    ensures { Takes (spec.entries_of (wanted reading.old leaf.now) (level_list levels.now)
+    ensures { GoesInto (spec.entries_of (wanted reading.old leaf.now) (level_list levels.now)
         (spec.dictionary_values (Some (page_values dictionary.now)) (full (level_list levels.now)) bytes.now)) reading.old reading.new result }
 {
     let order = read_order(alloc, dictionary, bytes, levels.count_full())?;
@@ -111,7 +103,7 @@ fn take_values(
     bytes: &[u8],
 ) -> Result<(), FileFault>
     requires { IsReading reading.old }
-    ensures { Takes (spec.entries_of (wanted reading.old leaf.now) (level_list levels.now)
+    ensures { GoesInto (spec.entries_of (wanted reading.old leaf.now) (level_list levels.now)
         (spec.page_values leaf.now (option_map page_values dictionary.now) encoding (full (level_list levels.now)) bytes.now)) reading.old reading.new result }
 {
     if encoding == PLAIN {
@@ -133,7 +125,7 @@ fn take_data(
     body: &[u8],
 ) -> Result<(), FileFault>
     requires { IsReading reading.old }
-    ensures { Takes (spec.data_page (wanted reading.old leaf.now) (option_map page_values dictionary.now) header.now body.now) reading.old reading.new result }
+    ensures { GoesInto (spec.data_page (wanted reading.old leaf.now) (option_map page_values dictionary.now) header.now body.now) reading.old reading.new result }
 {
     if !is_known(leaf.optional, header) {
         return Err(FileFault::Encoding);
@@ -175,7 +167,7 @@ fn cut_page(alloc: Global, bytes: &[u8]) -> Result<Cut<'_>, FileFault>
     ensures { GivesBody cut_of (spec.page_at bytes.now) result }
 {
     let (header, size) = read_page_header(alloc, bytes)?;
-    page_headers_are_read();
+    laws::page_headers_are_read();
     split_page(header, &bytes[size..])
 }
 
@@ -196,15 +188,15 @@ fn role_of(first: bool, left: usize, header: &PageHeader) -> Option<Role>
     ensures { result ≡ spec.role_of first left header.now }
 {
     match header.kind {
-        0 => {
+        DATA_PAGE => {
             let page = header.page?;
             if page.values < 0 || page.values as usize > left {
                 return None;
             }
             Some(Role::Entries(page))
         }
-        1 => Some(Role::Index),
-        2 => {
+        INDEX_PAGE => Some(Role::Index),
+        DICTIONARY_PAGE => {
             let page = header.dictionary?;
             if !first || page.values < 0 {
                 return None;
@@ -225,7 +217,7 @@ fn take_counted(
     body: &[u8],
 ) -> Result<(), FileFault>
     requires { IsReading reading.old }
-    ensures { TakesPage (spec.take_page (wanted reading.old leaf.now) (state_of progress.old) (role.Entries page.now) body.now)
+    ensures { PageGoesInto (spec.take_page (wanted reading.old leaf.now) (state_of progress.old) (role.Entries page.now) body.now)
         reading.old reading.new (state_of progress.new) result }
 {
     take_data(alloc, reading, leaf, &progress.dictionary, page, body)?;
@@ -245,7 +237,7 @@ fn take_dictionary<'a>(
     page: &DictionaryPage,
     body: &'a [u8],
 ) -> Result<(), FileFault>
-    ensures { TakesPage (spec.take_page (wanted reading.now leaf.now) (state_of progress.old) (role.Dictionary page.now) body.now)
+    ensures { PageGoesInto (spec.take_page (wanted reading.now leaf.now) (state_of progress.old) (role.Dictionary page.now) body.now)
         reading.now reading.now (state_of progress.new) result }
 {
     let values = read_dictionary(alloc, leaf, page, body)?;
@@ -264,7 +256,7 @@ fn take_page<'a>(
     body: &'a [u8],
 ) -> Result<(), FileFault>
     requires { IsReading reading.old }
-    ensures { TakesPage (spec.page_entries (wanted reading.old leaf.now) (state_of progress.old) header.now body.now)
+    ensures { PageGoesInto (spec.page_entries (wanted reading.old leaf.now) (state_of progress.old) header.now body.now)
         reading.old reading.new (state_of progress.new) result }
 {
     let Some(role) = role_of(progress.first, progress.left, header) else {
@@ -290,7 +282,7 @@ fn take_each<'a>(
     bytes: &'a [u8],
 ) -> Result<(), FileFault>
     requires { IsReading reading.old }
-    ensures { Takes (spec.pages_at (length bytes.now) (wanted reading.old leaf.now) (state_of progress.old) bytes.now) reading.old reading.new result }
+    ensures { GoesInto (spec.pages_at (length bytes.now) (wanted reading.old leaf.now) (state_of progress.old) bytes.now) reading.old reading.new result }
 {
     let mut rest = bytes;
     // Each page has a byte.
@@ -318,7 +310,7 @@ pub(crate) fn take_pages(
     bytes: &[u8],
 ) -> Result<(), FileFault>
     requires { IsReading reading.old }
-    ensures { Takes (spec.pages_at (length bytes.now) (wanted reading.old leaf.now) (spec.begun rows) bytes.now) reading.old reading.new result }
+    ensures { GoesInto (spec.pages_at (length bytes.now) (wanted reading.old leaf.now) (spec.begun rows) bytes.now) reading.old reading.new result }
 {
     let mut progress = Progress {
         first: true,

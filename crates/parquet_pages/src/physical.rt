@@ -1,5 +1,5 @@
 // Values as they stand in pages, by their physical type.
-ghost use Rattle.std.specs.Prelude.{◌≡◌, ◌≢◌, length, slice_get, option_map};
+ghost use Rattle.std.specs.Prelude.{◌≡◌, ◌≤◌, length, slice_get, option_map};
 ghost use Rattle.parquet_pages.specs.Answers.{GivesBody};
 ghost use Rattle.parquet_pages.specs.Pages.{plain_values};
 ghost use Rattle.parquet_pages.specs.Views.{page_values, physicals, seen};
@@ -7,10 +7,14 @@ ghost use Rattle.parquet_pages.specs.Views.{page_values, physicals, seen};
 use crate::fault::FileFault;
 use dm_types::{Bytes, Flags, Items, WholeList};
 use parquet_meta::LeafSchema;
+use parquet_meta::numbers::{BOOLEAN, BYTE_ARRAY, FIXED_LEN_BYTE_ARRAY, INT32, INT64, INT96};
 use plain_values::{
-    PlainBoolean, PlainFixed, PlainInt32, PlainInt64, PlainInt96, read_arrays, read_plain,
+    FixedArrays, PlainBoolean, PlainInt32, PlainInt64, read_arrays, read_fixed, read_plain,
 };
 use std::alloc::Global;
+
+/// How many bytes a value of INT96 has.
+const INT96_BYTES: usize = 12;
 
 /// A value before its column's type says what it means.
 #[derive(Clone, Copy)]
@@ -29,7 +33,6 @@ pub(crate) enum PlainList {
     Flags(Flags),
     Whole32(Items<i32>),
     Whole64(WholeList),
-    Int96(Items<[u8; 12]>),
     Raw(Items<Bytes>),
 }
 
@@ -42,7 +45,6 @@ impl PlainList {
             PlainList::Flags(flags) => flags.len(),
             PlainList::Whole32(numbers) => numbers.len(),
             PlainList::Whole64(numbers) => numbers.len(),
-            PlainList::Int96(values) => values.len(),
             PlainList::Raw(values) => values.len(),
         }
     }
@@ -64,10 +66,6 @@ impl PlainList {
                 let number = numbers.as_slice().get(at)?;
                 Some(PlainValue::Whole(*number))
             }
-            PlainList::Int96(values) => {
-                let value = values.as_slice().get(at)?;
-                Some(PlainValue::Raw(value))
-            }
             PlainList::Raw(values) => {
                 let value = values.as_slice().get(at)?;
                 Some(PlainValue::Raw(value.as_slice()))
@@ -83,6 +81,8 @@ pub(crate) enum PageValues<'a> {
     Own(PlainList),
     /// Byte arrays, which are parts of the page.
     Lent(Items<&'a [u8]>),
+    /// Fixed arrays, which stand in the page one after the other.
+    Fixed(FixedArrays<'a>),
 }
 
 impl PageValues<'_> {
@@ -93,6 +93,7 @@ impl PageValues<'_> {
         match self {
             PageValues::Own(values) => values.len(),
             PageValues::Lent(arrays) => arrays.len(),
+            PageValues::Fixed(arrays) => arrays.len(),
         }
     }
 
@@ -106,41 +107,36 @@ impl PageValues<'_> {
                 let array = arrays.as_slice().get(at)?;
                 Some(PlainValue::Raw(array))
             }
+            PageValues::Fixed(arrays) => {
+                let array = arrays.get(at)?;
+                Some(PlainValue::Raw(array))
+            }
         }
     }
 }
 
-// The values of a leaf that has no byte arrays.
+// The numbers or truth values of a leaf that has such.
 fn read_own(
     alloc: Global,
     leaf: &LeafSchema,
     bytes: &[u8],
     count: usize,
 ) -> Result<PlainList, FileFault>
-    requires { leaf.now.physical ≢ 6 }
+    requires { leaf.now.physical ≤ INT64 }
     ensures { GivesBody physicals (plain_values leaf.now count bytes.now) result }
 {
     match leaf.physical {
-        0 => {
+        BOOLEAN => {
             let flags = read_plain::<PlainBoolean>(alloc, bytes, 0, count)?;
             Ok(PlainList::Flags(flags))
         }
-        1 => {
+        INT32 => {
             let numbers = read_plain::<PlainInt32>(alloc, bytes, 0, count)?;
             Ok(PlainList::Whole32(numbers))
         }
-        2 => {
+        _ => {
             let numbers = read_plain::<PlainInt64>(alloc, bytes, 0, count)?;
             Ok(PlainList::Whole64(numbers))
-        }
-        3 => {
-            let values = read_plain::<PlainInt96>(alloc, bytes, 0, count)?;
-            Ok(PlainList::Int96(values))
-        }
-        _ => {
-            let size = leaf.length.unsigned_abs() as usize;
-            let values = read_plain::<PlainFixed>(alloc, bytes, size, count)?;
-            Ok(PlainList::Raw(values))
         }
     }
 }
@@ -154,10 +150,23 @@ pub(crate) fn read_values<'a>(
 ) -> Result<PageValues<'a>, FileFault>
     ensures { GivesBody page_values (plain_values leaf.now count bytes.now) result }
 {
-    if leaf.physical == 6 {
-        let arrays = read_arrays(alloc, bytes, count)?;
-        return Ok(PageValues::Lent(arrays));
+    match leaf.physical {
+        BOOLEAN | INT32 | INT64 => {
+            let values = read_own(alloc, leaf, bytes, count)?;
+            Ok(PageValues::Own(values))
+        }
+        INT96 => {
+            let arrays = read_fixed(bytes, INT96_BYTES, count)?;
+            Ok(PageValues::Fixed(arrays))
+        }
+        BYTE_ARRAY => {
+            let arrays = read_arrays(alloc, bytes, count)?;
+            Ok(PageValues::Lent(arrays))
+        }
+        FIXED_LEN_BYTE_ARRAY => {
+            let arrays = read_fixed(bytes, leaf.length.unsigned_abs() as usize, count)?;
+            Ok(PageValues::Fixed(arrays))
+        }
+        _ => Err(FileFault::BadParquet),
     }
-    let values = read_own(alloc, leaf, bytes, count)?;
-    Ok(PageValues::Own(values))
 }

@@ -1,14 +1,12 @@
 // Columns that are read of chunks.
-ghost use Rattle.std.specs.Prelude.{◌≡◌, ℕ, Bool, List, [], ◌++◌, Ok, Some};
+ghost use Rattle.std.specs.Prelude.{◌≡◌, Ok};
 ghost use Rattle.dm_types.specs.Ranges.{IsWellFormed};
 ghost use Rattle.dm_types.specs.Then.{go};
 ghost use Rattle.parquet_pages.specs.Answers.{Gives};
-ghost use Rattle.dm_types.specs.declared.value.DataType.{DataType as AType};
-ghost use Rattle.dm_types.specs.declared.value.Value.{Value as AValue};
-ghost use Rattle.parquet_pages.specs.Chunk.{chunk_values, chunk_column, within};
+ghost use Rattle.parquet_pages.specs.Chunk.{chunk_values, chunk_column};
 ghost use Rattle.parquet_pages.specs.Kept.{begun, finished, with_more};
+ghost use Rattle.parquet_pages.specs.Pages.{Wanted};
 ghost use Rattle.parquet_pages.specs.Views.{wanted};
-ghost use Rattle.parquet_pages.specs.declared.kept.Reading.{Reading as AReading};
 
 use crate::chunk::take_chunk;
 use crate::fault::FileFault;
@@ -67,7 +65,9 @@ impl ColumnReader {
         leaf: &LeafSchema,
         rows: usize,
     ) -> Result<ColumnReader, FileFault>
-        ensures { Gives (λ reader. reader) (go (chunk_values file.now chunk.now (wanted self leaf.now) rows) (λ values. Ok (with_more values self))) result }
+        ensures { Gives (λ reader. reader)
+            (go (chunk_values file.now chunk.now (wanted self leaf.now) rows) (λ values. Ok (with_more values self)))
+            result }
     {
         let ColumnReader { mut reading } = self;
         take_chunk(alloc, &mut reading, file, chunk, leaf, rows)?;
@@ -84,16 +84,6 @@ impl ColumnReader {
         }
     }
 }
-
-/// A law: values that are added after others are added as one list with them, and a column that is
-/// begun and takes values is there as long as their text is within the limit.
-pub fn columns_grow()
-    ensures more { (first then : List AValue) (reading : AReading)
-        → with_more (first ++ then) reading ≡ with_more then (with_more first reading) }
-    ensures none { (reading : AReading) → with_more [] reading ≡ reading }
-    ensures whole { (kind : AType) (nullable : Bool) (text_left : ℕ) (values : List AValue)
-        → finished (with_more values (begun kind nullable text_left)).kept ≡ go (within text_left values) (λ all. Ok (record { kind = kind; values = all })) }
-{}
 
 /// The column of a chunk (parquet.thrift, `ColumnMetaData`, `PageHeader`; Encodings.md).
 ///
@@ -119,7 +109,9 @@ pub fn read_chunk(
     text_left: u64,
 ) -> Result<AnyColumn, FileFault>
     requires { IsWellFormed kind.now }
-    ensures { Gives (λ column. column) (go (chunk_column file.now chunk.now (record { kind = kind.now; nullable = nullable; leaf = leaf.now }) rows text_left) (λ values. Ok (record { kind = kind.now; values = values }))) result }
+    ensures { let wanted : Wanted = record { kind = kind.now; nullable = nullable; leaf = leaf.now } in
+        Gives (λ column. column) (go (chunk_column file.now chunk.now wanted rows text_left)
+        (λ values. Ok (record { kind = kind.now; values = values }))) result }
 {
     if !fits(kind, leaf) {
         return Err(FileFault::Mismatch);

@@ -1,5 +1,6 @@
 // The values of a column as they stand in a page.
 ghost use Rattle.std.specs.Prelude.{◌≡◌, ◌++◌, ◌∷◌, ◌<◌, ◌≤◌, ◌^◌, [], unsigned_abs, option_map, All, IfOk, IfSome, OnOk};
+ghost use Rattle.dm_types.specs.declared.value.TheConstants.{MAX_PRECISION};
 ghost use Rattle.dm_types.specs.Ranges.{IsNullOrInRange, IsText};
 ghost use Rattle.parquet_pages.specs.Stored.{decimal_stored, type_of};
 ghost use Rattle.parquet_pages.specs.Storing.{form, form_of, IsOfForm, IsStored, level, listed, physical_of, told};
@@ -10,6 +11,7 @@ use crate::physical::PlainList;
 use byteorder::{BigEndian, ByteOrder};
 use column_vectors::AnyColumn;
 use dm_types::{Bytes, DataType, Items, NumberList, Value};
+use parquet_meta::numbers::{BOOLEAN, INT32, INT64};
 use std::alloc::{AllocError, Global};
 
 /// A value as it stands in a page.
@@ -30,7 +32,7 @@ pub(crate) struct StoredColumn {
 
 /// A decimal: a number where the physical type is one, else in big endian, two's complement.
 fn stored_decimal(alloc: Global, precision: u8, unscaled: i128) -> Result<StoredValue, AllocError>
-    requires few { precision ≤ 38 }
+    requires few { precision ≤ MAX_PRECISION }
     requires within { unsigned_abs unscaled < 10 ^ precision }
     ensures { IfOk result (λ found. physical_of found ≡ decimal_stored precision unscaled) }
 {
@@ -77,9 +79,9 @@ fn empty_list(alloc: Global, kind: &DataType) -> PlainList
     ensures form { form_of result ≡ form (type_of kind.now) }
 {
     match type_of(kind) {
-        0 => PlainList::Flags(Items::new(alloc)),
-        1 => PlainList::Whole32(Items::new(alloc)),
-        2 => PlainList::Whole64(Items::new(alloc)),
+        BOOLEAN => PlainList::Flags(Items::new(alloc)),
+        INT32 => PlainList::Whole32(Items::new(alloc)),
+        INT64 => PlainList::Whole64(Items::new(alloc)),
         _ => PlainList::Raw(Items::new(alloc)),
     }
 }
@@ -104,7 +106,8 @@ impl StoredColumn {
     fn add(&mut self, value: Option<StoredValue>) -> Result<(), AllocError>
         requires { IfSome (option_map physical_of value) (IsOfForm (form_of self.old.values)) }
         ensures levels { OnOk result (self.new.levels ≡ self.old.levels ++ level (option_map physical_of value) ∷ []) }
-        ensures values { OnOk result (physicals self.new.values ≡ physicals self.old.values ++ listed (option_map physical_of value)) }
+        ensures values { OnOk result (physicals self.new.values
+            ≡ physicals self.old.values ++ listed (option_map physical_of value)) }
         ensures form { form_of self.new.values ≡ form_of self.old.values }
     {
         match value {

@@ -3,6 +3,10 @@ ghost use Rattle.std.specs.Prelude.{◌≡◌, pos};
 ghost use Rattle.parquet_pages.specs.Types as spec;
 
 use dm_types::DataType;
+use parquet_meta::numbers::{
+    BOOLEAN, BYTE_ARRAY, DECIMAL, FIXED_LEN_BYTE_ARRAY, INT32, INT64, INT96, MICROS, MILLIS,
+    TIMESTAMP_MICROS, TIMESTAMP_MILLIS,
+};
 use parquet_meta::{Annotation, LeafSchema, Logical};
 
 // The scale that the annotation DECIMAL gives.
@@ -11,7 +15,7 @@ fn annotated_scale(annotation: &Annotation) -> Option<i32>
 {
     match annotation.logical {
         Logical::Decimal { scale } => Some(scale),
-        _ if annotation.converted == Some(5) => Some(0),
+        _ if annotation.converted == Some(DECIMAL) => Some(0),
         _ => None,
     }
 }
@@ -31,8 +35,8 @@ pub(crate) fn micros_of(annotation: &Annotation) -> Option<u32>
 {
     match annotation.logical {
         Logical::Absent => converted_micros(annotation.converted),
-        Logical::Timestamp { unit: 1 } => Some(1000),
-        Logical::Timestamp { unit: 2 } => Some(1),
+        Logical::Timestamp { unit: MILLIS } => Some(1000),
+        Logical::Timestamp { unit: MICROS } => Some(1),
         _ => None,
     }
 }
@@ -41,8 +45,8 @@ fn converted_micros(converted: Option<i32>) -> Option<u32>
     ensures { result ≡ spec.converted_micros converted }
 {
     match converted {
-        Some(9) => Some(1000),
-        Some(10) => Some(1),
+        Some(TIMESTAMP_MILLIS) => Some(1000),
+        Some(TIMESTAMP_MICROS) => Some(1),
         _ => None,
     }
 }
@@ -50,13 +54,16 @@ fn converted_micros(converted: Option<i32>) -> Option<u32>
 fn holds_decimal(scale: u8, leaf: &LeafSchema) -> bool
     ensures { result ≡ spec.holds_decimal scale leaf.now }
 {
-    matches!(leaf.physical, 1 | 2 | 6 | 7) && scale_of(&leaf.annotation) == Some(i32::from(scale))
+    matches!(
+        leaf.physical,
+        INT32 | INT64 | BYTE_ARRAY | FIXED_LEN_BYTE_ARRAY
+    ) && scale_of(&leaf.annotation) == Some(i32::from(scale))
 }
 
 fn holds_moment(leaf: &LeafSchema) -> bool
     ensures { result ≡ spec.holds_moment leaf.now }
 {
-    leaf.physical == 3 || leaf.physical == 2 && micros_of(&leaf.annotation).is_some()
+    leaf.physical == INT96 || leaf.physical == INT64 && micros_of(&leaf.annotation).is_some()
 }
 
 // Whether values of the type stand in the leaf, by its physical type and its annotation.
@@ -65,11 +72,13 @@ fn holds(kind: &DataType, leaf: &LeafSchema) -> bool
 {
     match *kind {
         DataType::Void => false,
-        DataType::Boolean => leaf.physical == 0,
-        DataType::Byte | DataType::Short | DataType::Integer | DataType::Date => leaf.physical == 1,
-        DataType::Long => leaf.physical == 2,
+        DataType::Boolean => leaf.physical == BOOLEAN,
+        DataType::Byte | DataType::Short | DataType::Integer | DataType::Date => {
+            leaf.physical == INT32
+        }
+        DataType::Long => leaf.physical == INT64,
         DataType::Timestamp => holds_moment(leaf),
-        DataType::Str | DataType::Binary => leaf.physical == 6,
+        DataType::Str | DataType::Binary => leaf.physical == BYTE_ARRAY,
         DataType::Decimal { scale, .. } => holds_decimal(scale, leaf),
     }
 }

@@ -11,18 +11,14 @@ use crate::stored::stored_column;
 use byteorder::{ByteOrder, LittleEndian};
 use column_vectors::AnyColumn;
 use dm_types::{Bytes, DataType, Items, WholeList};
-use level_runs::{runs_again, write_runs};
-use parquet_meta::{ChunkMeta, LeafSchema, Memory, PageHeader, PageV1, write_page_header};
-use std::alloc::Global;
-
-/// The encodings of parquet.thrift, `Encoding`.
-const PLAIN: i32 = 0;
-
-const RLE: i32 = 3;
+use level_runs::{laws, write_runs};
+use parquet_meta::numbers::{DATA_PAGE, PLAIN, RLE, UNCOMPRESSED};
+use parquet_meta::{ChunkMeta, LeafSchema, PageHeader, PageV1, SharedBytes, write_page_header};
+use std::alloc::{AllocError, Global};
 
 /// The leaf that a column of the type is written as: OPTIONAL, directly below the root, with the
 /// converted type of the column's type (LogicalTypes.md; parquet.thrift, `ConvertedType`).
-pub fn leaf_for(name: Bytes, field_id: Option<i32>, kind: &DataType) -> LeafSchema
+pub fn leaf_for(name: SharedBytes, field_id: Option<i32>, kind: &DataType) -> LeafSchema
     requires { IsWellFormed kind.now }
     ensures { result ≡ leaf_of name field_id kind.now }
 {
@@ -40,7 +36,7 @@ pub fn leaf_for(name: Bytes, field_id: Option<i32>, kind: &DataType) -> LeafSche
 
 /// A data page V1: its header, its levels behind their length in four bytes, and its values
 /// (parquet.thrift, `PageHeader`, `DataPageHeader`).
-fn page_of(alloc: Global, rows: usize, levels: &Bytes, values: &Bytes) -> Result<Bytes, Memory>
+fn page_of(alloc: Global, rows: usize, levels: &Bytes, values: &Bytes) -> Result<Bytes, AllocError>
     requires rows { rows < 2 ^ 31 }
     requires size { 4 + length levels.now + length values.now < 2 ^ 31 }
     ensures bytes { IfOk result (λ page. page ≡ page_bytes rows levels.now values.now) }
@@ -48,7 +44,7 @@ fn page_of(alloc: Global, rows: usize, levels: &Bytes, values: &Bytes) -> Result
 {
     let size = (4 + levels.len() + values.len()) as i32;
     let header = PageHeader {
-        kind: 0,
+        kind: DATA_PAGE,
         unpacked: size,
         packed: size,
         page: Some(PageV1 {
@@ -71,7 +67,7 @@ fn page_of(alloc: Global, rows: usize, levels: &Bytes, values: &Bytes) -> Result
 }
 
 /// The page of a column.
-fn column_page(alloc: Global, column: &AnyColumn) -> Result<Bytes, Memory>
+fn column_page(alloc: Global, column: &AnyColumn) -> Result<Bytes, AllocError>
     requires { IsWritableColumn column.now }
     ensures { IfOk result (λ page. IsPage column.now page) }
 {
@@ -89,7 +85,7 @@ fn meta_of(
     column: &AnyColumn,
     start: usize,
     size: usize,
-) -> Result<ChunkMeta, Memory>
+) -> Result<ChunkMeta, AllocError>
     requires rows { length column.now.values < 2 ^ 63 }
     requires start { start < 2 ^ 63 }
     requires size { size < 2 ^ 63 }
@@ -100,7 +96,7 @@ fn meta_of(
         physical: i32::from(type_of(column.kind())),
         encodings: WholeList::from_slice(alloc, &[i64::from(PLAIN), i64::from(RLE)])?,
         path: Items::new(alloc),
-        codec: 0,
+        codec: UNCOMPRESSED,
         values: column.len() as i64,
         unpacked: size as i64,
         packed: size as i64,
@@ -113,7 +109,11 @@ fn meta_of(
 /// uncompressed, and gives what a footer tells of it; its path is empty. The column is of a type of
 /// tables, with its values in their range, at most 20,000,000 rows and 536,870,912 bytes of text.
 /// After want of memory `out` is as before.
-pub fn write_chunk(alloc: Global, column: &AnyColumn, out: &mut Bytes) -> Result<ChunkMeta, Memory>
+pub fn write_chunk(
+    alloc: Global,
+    column: &AnyColumn,
+    out: &mut Bytes,
+) -> Result<ChunkMeta, AllocError>
     requires column { IsWritableColumn column.now }
     requires start { 4 ≤ length out.old }
     ensures written { IfOk result (λ meta. WritesChunk column.now out.old out.new meta) }
@@ -121,7 +121,7 @@ pub fn write_chunk(alloc: Global, column: &AnyColumn, out: &mut Bytes) -> Result
     ensures again { IfOk result (λ meta. IsReadBack column.now out.new meta) }
     ensures memory { OnErr result (out.new ≡ out.old) }
 {
-    runs_again();
+    laws::runs_again();
     let page = column_page(alloc, column)?;
     let chunk = meta_of(alloc, column, out.as_slice().len(), page.as_slice().len())?;
     out.extend_from_slice(page.as_slice())?;

@@ -4,7 +4,7 @@
 mod fault;
 mod fixed;
 mod in_turn;
-mod laws;
+pub mod laws;
 mod lent;
 mod physical;
 mod plain;
@@ -12,7 +12,6 @@ mod truth;
 
 pub use fault::PlainFault;
 pub use fixed::{FixedArrays, read_fixed};
-pub use laws::{plain_again, plain_judges};
 pub use lent::{read_arrays, write_arrays};
 pub use physical::{
     PlainByteArray, PlainDouble, PlainFixed, PlainFloat, PlainInt32, PlainInt64, PlainInt96,

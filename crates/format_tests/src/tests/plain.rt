@@ -1,9 +1,9 @@
 // Values of each physical type, both ways, and bytes that are too few or too many.
+use dm_types::Items;
 use plain_values::{
     Plain, PlainBoolean, PlainByteArray, PlainDouble, PlainFault, PlainFixed, PlainFloat,
     PlainInt32, PlainInt64, PlainInt96, read_plain, write_plain,
 };
-use dm_types::Items;
 use std::alloc::Global;
 use std::test::Fail;
 

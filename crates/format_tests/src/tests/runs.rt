@@ -1,8 +1,8 @@
 // Runs from outside, of every width, and cut.
 ghost use Rattle.std.specs.Prelude.{◌^◌, ◌<◌, ◌≤◌, IfOk, All};
 
-use level_runs::{RunFault, read_runs, write_runs};
 use dm_types::{Items, NumberList};
+use level_runs::{RunFault, read_runs, write_runs};
 use std::alloc::{AllocError, Global};
 use std::test::Fail;
 

@@ -6,8 +6,8 @@ use Rattle.parquet_pages.specs.Views.{physicals}
 use Rattle.parquet_pages.proofs.Standing.{if_ok_both, levels_fit, values_stand, page_short, page_made}
 use Rattle.parquet_pages.proofs.writing.column_page.Goals as goal
 
-pub write_runs-requires-clause-fits : goal.write_runs-requires-clause-fits
-write_runs-requires-clause-fits c = levels_fit c.args.column.now.kind c.args.column.now.values c.in_ok-stored.stored c.in_ok-stored.ensures
+pub write_runs-requires : goal.write_runs-requires
+write_runs-requires c = levels_fit c.args.column.now.kind c.args.column.now.values c.in_ok-stored.stored c.in_ok-stored.ensures
 
 pub write_values-requires-clause-stand : goal.write_values-requires-clause-stand
 write_values-requires-clause-stand c = values_stand c.args.column.now c.kind.result.now c.in_ok-stored.stored c.requires c.in_ok-stored.ensures c.kind.ensures.kind

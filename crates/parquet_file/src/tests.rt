@@ -1,4 +1,0 @@
-// Tests.
-mod reading;
-mod speed;
-mod writing;

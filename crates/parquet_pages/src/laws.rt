@@ -1,0 +1,19 @@
+// Columns that are read, chunk after chunk.
+ghost use Rattle.std.specs.Prelude.{◌≡◌, ℕ, Bool, List, [], ◌++◌, Ok};
+ghost use Rattle.dm_types.specs.Then.{go};
+ghost use Rattle.dm_types.specs.declared.value.DataType.{DataType as AType};
+ghost use Rattle.dm_types.specs.declared.value.Value.{Value as AValue};
+ghost use Rattle.parquet_pages.specs.Chunk.{within};
+ghost use Rattle.parquet_pages.specs.Kept.{begun, finished, with_more};
+ghost use Rattle.parquet_pages.specs.declared.kept.Reading.{Reading as AReading};
+
+/// A law: values that are added after others are added as one list with them, and a column that is
+/// begun and takes values is there as long as their text is within the limit.
+pub fn columns_grow()
+    ensures more { (first then : List AValue) (reading : AReading)
+        → with_more (first ++ then) reading ≡ with_more then (with_more first reading) }
+    ensures none { (reading : AReading) → with_more [] reading ≡ reading }
+    ensures whole { (kind : AType) (nullable : Bool) (text_left : ℕ) (values : List AValue)
+        → finished (with_more values (begun kind nullable text_left)).kept
+        ≡ go (within text_left values) (λ all. Ok (record { kind = kind; values = all })) }
+{}
