@@ -1,3 +1,4 @@
 // Tokens, and trees.
+mod shown;
 mod tokens;
 mod trees;

@@ -1,9 +1,7 @@
 // Expressions of every form with their trees, and scripts, by hand; places of what is none.
+use super::shown::show;
 use dm_types::DataType;
-use sql_reader::{
-    Expr, Literal, Name, Number, Operator, Prefix, ScriptFault, Span, Stmt, Truth, WrittenKind,
-    WrittenType, read_expr, read_script,
-};
+use sql_reader::{Expr, Literal, ScriptFault, Stmt, WrittenKind, read_expr, read_script};
 use std::alloc::{AllocError, Global};
 use std::test::Fail;
 
@@ -264,228 +262,6 @@ const SCRIPTS: [(&[u8], u64); 24] = [
     (b"SHOW FILES t; SHOW FILES u; x", 28),
 ];
 
-fn push(bytes: &[u8], span: Span, out: &mut Vec<u8>) -> Result<(), AllocError> {
-    match bytes.get(span.start..span.end) {
-        Some(text) => out.extend_from_slice(text),
-        None => out.extend_from_slice(b"?"),
-    }
-}
-
-fn literal_name(literal: &Literal) -> &'static [u8] {
-    match literal {
-        Literal::Null => b"null ",
-        Literal::True => b"true ",
-        Literal::False => b"false ",
-        Literal::Whole(_) => b"whole ",
-        Literal::Decimal(_) => b"decimal ",
-        Literal::Text(_) => b"text ",
-        Literal::Bytes(_) => b"bytes ",
-        Literal::Date { .. } => b"date ",
-        Literal::Timestamp { .. } => b"timestamp ",
-    }
-}
-
-fn operator_name(operator: Operator) -> &'static [u8] {
-    match operator {
-        Operator::Or => b" or[",
-        Operator::And => b" and[",
-        Operator::Equal => b" equal[",
-        Operator::NotEqual => b" not equal[",
-        Operator::Less => b" less[",
-        Operator::LessOrEqual => b" at most[",
-        Operator::Greater => b" greater[",
-        Operator::GreaterOrEqual => b" at least[",
-        Operator::SameAs => b" same[",
-        Operator::Concat => b" concat[",
-        Operator::Plus => b" plus[",
-        Operator::Minus => b" minus[",
-        Operator::Times => b" times[",
-        Operator::Remainder => b" remainder[",
-        Operator::Divide => b" divide[",
-    }
-}
-
-fn prefix_name(prefix: Prefix) -> &'static [u8] {
-    match prefix {
-        Prefix::Not => b" not[",
-        Prefix::Minus => b" minus[",
-        Prefix::Plus => b" plus[",
-    }
-}
-
-fn truth_name(not: bool, truth: Truth) -> &'static [u8] {
-    match (not, truth) {
-        (false, Truth::Null) => b" null[",
-        (false, Truth::True) => b" true[",
-        (false, Truth::False) => b" false[",
-        (true, Truth::Null) => b" not null[",
-        (true, Truth::True) => b" not true[",
-        (true, Truth::False) => b" not false[",
-    }
-}
-
-#[cycle(show)]
-fn show_all(bytes: &[u8], exprs: &[Expr], out: &mut Vec<u8>) -> Result<(), AllocError> {
-    for expr in exprs {
-        show(bytes, expr, out)?;
-        out.extend_from_slice(b";")?;
-    }
-    Ok(())
-}
-
-#[cycle(show)]
-fn show_branches(
-    bytes: &[u8],
-    branches: &[(Expr, Expr)],
-    out: &mut Vec<u8>,
-) -> Result<(), AllocError> {
-    for (condition, value) in branches {
-        show(bytes, condition, out)?;
-        out.extend_from_slice(b":")?;
-        show(bytes, value, out)?;
-        out.extend_from_slice(b";")?;
-    }
-    Ok(())
-}
-
-#[cycle(show)]
-fn show_unary(
-    bytes: &[u8],
-    place: Span,
-    name: &[u8],
-    expr: &Expr,
-    out: &mut Vec<u8>,
-) -> Result<(), AllocError> {
-    push(bytes, place, out)?;
-    out.extend_from_slice(name)?;
-    show(bytes, expr, out)?;
-    out.extend_from_slice(b"]")
-}
-
-/// The expression as a text.
-#[cycle(show)]
-fn show(bytes: &[u8], expr: &Expr, out: &mut Vec<u8>) -> Result<(), AllocError> {
-    match expr {
-        Expr::Literal { span, value } => {
-            out.extend_from_slice(literal_name(value))?;
-            push(bytes, *span, out)
-        }
-        Expr::Column {
-            qualifier,
-            name,
-            ..
-        } => {
-            out.extend_from_slice(b"column ")?;
-            if let Some(qualifier) = qualifier {
-                push(bytes, qualifier.span, out)?;
-                out.extend_from_slice(b".")?;
-            }
-            push(bytes, name.span, out)
-        }
-        Expr::Group { span, inner } => {
-            out.extend_from_slice(b"group ")?;
-            show_unary(bytes, *span, b" [", inner.get(), out)
-        }
-        Expr::Unary {
-            prefix,
-            place,
-            operand,
-            ..
-        } => show_unary(bytes, *place, prefix_name(*prefix), operand.get(), out),
-        Expr::Binary {
-            operator,
-            place,
-            left,
-            right,
-            ..
-        } => {
-            push(bytes, *place, out)?;
-            out.extend_from_slice(operator_name(*operator))?;
-            show(bytes, left.get(), out)?;
-            out.extend_from_slice(b";")?;
-            show(bytes, right.get(), out)?;
-            out.extend_from_slice(b"]")
-        }
-        Expr::Is {
-            truth,
-            not,
-            place,
-            operand,
-            ..
-        } => show_unary(bytes, *place, truth_name(*not, *truth), operand.get(), out),
-        Expr::Between {
-            not,
-            place,
-            operand,
-            low,
-            high,
-            ..
-        } => {
-            push(bytes, *place, out)?;
-            out.extend_from_slice(if *not { b" not between[" } else { b" between[" })?;
-            show(bytes, operand.get(), out)?;
-            out.extend_from_slice(b";")?;
-            show(bytes, low.get(), out)?;
-            out.extend_from_slice(b";")?;
-            show(bytes, high.get(), out)?;
-            out.extend_from_slice(b"]")
-        }
-        Expr::In {
-            not,
-            place,
-            operand,
-            items,
-            ..
-        } => {
-            push(bytes, *place, out)?;
-            out.extend_from_slice(if *not { b" not in[" } else { b" in[" })?;
-            show(bytes, operand.get(), out)?;
-            out.extend_from_slice(b";")?;
-            show_all(bytes, items.as_slice(), out)?;
-            out.extend_from_slice(b"]")
-        }
-        Expr::Case {
-            place,
-            branches,
-            otherwise,
-            ..
-        } => {
-            push(bytes, *place, out)?;
-            out.extend_from_slice(b" case[")?;
-            show_branches(bytes, branches.as_slice(), out)?;
-            if let Some(otherwise) = otherwise {
-                out.extend_from_slice(b"else ")?;
-                show(bytes, otherwise.get(), out)?;
-            }
-            out.extend_from_slice(b"]")
-        }
-        Expr::Cast {
-            place,
-            operand,
-            wanted,
-            ..
-        } => {
-            push(bytes, *place, out)?;
-            out.extend_from_slice(b" cast[")?;
-            show(bytes, operand.get(), out)?;
-            out.extend_from_slice(b";")?;
-            push(bytes, wanted.span, out)?;
-            out.extend_from_slice(b"]")
-        }
-        Expr::Call {
-            function,
-            arguments,
-            ..
-        } => {
-            out.extend_from_slice(b"call ")?;
-            push(bytes, function.span, out)?;
-            out.extend_from_slice(b"[")?;
-            show_all(bytes, arguments.as_slice(), out)?;
-            out.extend_from_slice(b"]")
-        }
-    }
-}
-
 /// The names, the text or the bytes of an expression.
 fn content_of(alloc: Global, expr: &Expr) -> Result<Vec<u8>, AllocError> {
     let mut out = Vec::new(alloc);
@@ -586,30 +362,68 @@ fn expressions_have_their_trees(rt: HostRuntime) -> Result<(), Fail> {
     Ok(())
 }
 
+fn type_at(alloc: Global, bytes: &[u8]) -> Option<DataType> {
+    let Ok(expr) = read_expr(alloc, bytes) else {
+        return None;
+    };
+    match wanted_of(&expr) {
+        Some(WrittenKind::Type(found)) => Some(found),
+        _ => None,
+    }
+}
+
+fn bad_decimal_at(alloc: Global, bytes: &[u8]) -> Option<(u128, u128)> {
+    let Ok(expr) = read_expr(alloc, bytes) else {
+        return None;
+    };
+    match wanted_of(&expr) {
+        Some(WrittenKind::BadDecimal { precision, scale }) => Some((precision, scale)),
+        _ => None,
+    }
+}
+
+fn number_at(alloc: Global, bytes: &[u8]) -> Option<(u128, usize, usize)> {
+    match read_expr(alloc, bytes) {
+        Ok(expr) => number_of(&expr),
+        Err(_) => None,
+    }
+}
+
+fn content_at(alloc: Global, bytes: &[u8]) -> Result<Vec<u8>, AllocError> {
+    match read_expr(alloc, bytes) {
+        Ok(expr) => content_of(alloc, &expr),
+        Err(_) => Vec::from_slice(alloc, b"no expression"),
+    }
+}
+
 #[test]
-fn trees_have_their_contents(rt: HostRuntime) -> Result<(), Fail> {
-    let alloc = rt.alloc();
+fn trees_have_their_texts(rt: HostRuntime) -> Result<(), Fail> {
     for (bytes, wanted) in CONTENTS {
-        let expr = read_expr(alloc, bytes)?;
-        assert_eq!(rt; content_of(alloc, &expr)?.as_slice(), wanted, "{bytes:?}");
+        assert_eq!(rt; content_at(rt.alloc(), bytes)?.as_slice(), wanted);
     }
+    Ok(())
+}
+
+#[test]
+fn trees_have_their_numbers(rt: HostRuntime) -> Result<(), Fail> {
     for (bytes, wanted) in NUMBERS {
-        let expr = read_expr(alloc, bytes)?;
-        assert_eq!(rt; number_of(&expr), Some(wanted), "{bytes:?}");
+        assert_eq!(rt; number_at(rt.alloc(), bytes), Some(wanted));
     }
+    Ok(())
+}
+
+#[test]
+fn trees_have_their_types(rt: HostRuntime) -> Result<(), Fail> {
     for (bytes, wanted) in TYPES {
-        let found = match wanted_of(&read_expr(alloc, bytes)?) {
-            Some(WrittenKind::Type(found)) => Some(found),
-            _ => None,
-        };
-        assert_eq!(rt; found, Some(wanted), "{bytes:?}");
+        assert_eq!(rt; type_at(rt.alloc(), bytes), Some(wanted));
     }
+    Ok(())
+}
+
+#[test]
+fn trees_keep_bad_decimals(rt: HostRuntime) -> Result<(), Fail> {
     for (bytes, precision, scale) in BAD_DECIMALS {
-        let found = match wanted_of(&read_expr(alloc, bytes)?) {
-            Some(WrittenKind::BadDecimal { precision, scale }) => Some((precision, scale)),
-            _ => None,
-        };
-        assert_eq!(rt; found, Some((precision, scale)), "{bytes:?}");
+        assert_eq!(rt; bad_decimal_at(rt.alloc(), bytes), Some((precision, scale)));
     }
     Ok(())
 }
