@@ -1,4 +1,5 @@
--- The parts of a file that is written: its chunks, one after the other, each read back as its column, and what stands behind them.
+-- The parts of a file that is written: its chunks, one after the other, each read back as its column, and what stands
+-- behind them.
 use Rattle.std.specs.Prelude.{◌≡◌, ℕ, List, [], ◌∷◌, ◌++◌, length}
 use Rattle.byteorder.specs.Endian.{little_bytes}
 use Rattle.parquet_meta.specs.Written.{footer_fields}
@@ -20,7 +21,8 @@ pub record IsChunkOf (c : FileColumn) (old new : List ℕ) (chunk : ChunkMeta) :
 -- the same for each column, in order
 abbrev pub GoesOn : List FileColumn → List ℕ → List ℕ → List ChunkMeta → Type 0
 GoesOn [] old new [] = old ≡ new
-GoesOn (c ∷ columns) old new (chunk ∷ chunks) = (middle : List ℕ) × IsChunkOf c old middle chunk × GoesOn columns middle new chunks
+GoesOn (c ∷ columns) old new (chunk ∷ chunks) =
+    (middle : List ℕ) × IsChunkOf c old middle chunk × GoesOn columns middle new chunks
 GoesOn columns old new chunks = ⊥
 
 -- a footer as it is written

@@ -1,4 +1,5 @@
--- What the bytes of a Parquet file mean: a footer, and a column for each leaf, or the first fault (the Parquet format, "File format"; parquet.thrift, FileMetaData).
+-- What the bytes of a Parquet file mean: a footer, and a column for each leaf, or the first fault (the Parquet format,
+-- "File format"; parquet.thrift, FileMetaData).
 use Rattle.std.specs.Prelude.{ℕ, ◌+◌, ◌-◌, ◌||◌, not, nat_lt, unsigned_abs, Bool, codes, if◌then◌else◌, List, [], ◌∷◌, ◌++◌, length, take, drop, slice_get, Option, Some, None, Ok, Err}
 use Rattle.std.specs.Str.{bytes_eq}
 use Rattle.byteorder.specs.Endian.{little_number}

@@ -51,7 +51,8 @@ named c chunk = record {
 -- a chunk for each column went to the end, in order
 pub data WritesChunks : List FileColumn → List ℕ → List ℕ → List ChunkMeta → Type 0 where
   nothing : (bytes : List ℕ) → WritesChunks [] bytes bytes []
-  one : (c : FileColumn) (columns : List FileColumn) (old middle new : List ℕ) (chunk : ChunkMeta) (chunks : List ChunkMeta) → WritesChunk c.column old middle chunk
+  one : (c : FileColumn) (columns : List FileColumn) (old middle new : List ℕ) (chunk : ChunkMeta)
+      (chunks : List ChunkMeta) → WritesChunk c.column old middle chunk
       → WritesChunks columns middle new chunks → WritesChunks (c ∷ columns) old new (named c chunk ∷ chunks)
 
 -- the bytes of chunks, headers counted
@@ -72,7 +73,8 @@ pub record WritesFile (columns : List FileColumn) (bytes : List ℕ) : Type 0 wh
   pub pages : List ℕ
   pub chunks : List ChunkMeta
   pub are : WritesChunks columns magic pages chunks
-  pub is : bytes ≡ pages ++ struct_bytes (footer_fields (footer_of columns chunks)) ++ little_bytes 4 (length (struct_bytes (footer_fields (footer_of columns chunks)))) ++ magic
+  pub is : bytes ≡ pages ++ struct_bytes (footer_fields (footer_of columns chunks))
+      ++ little_bytes 4 (length (struct_bytes (footer_fields (footer_of columns chunks)))) ++ magic
 
 -- ---- what is read of it
 
@@ -82,5 +84,6 @@ pub record IsFileOf (columns : List FileColumn) (bytes : List ℕ) : Type 0 wher
   pub is : opened bytes ≡ Some file
   pub rows : file.footer.rows ≡ pos (rows_of columns)
   pub leaves : file.footer.leaves ≡ map file_leaf columns
-  pub column : (i : ℕ) (c : FileColumn) (nullable : Bool) (text_left : ℕ) → slice_get columns i ≡ Some c → TakesNulls nullable c.column.values
+  pub column : (i : ℕ) (c : FileColumn) (nullable : Bool) (text_left : ℕ) → slice_get columns i ≡ Some c
+      → TakesNulls nullable c.column.values
       → column_of file i c.kind nullable text_left ≡ within text_left c.column.values

@@ -1,5 +1,5 @@
 // A file that is read.
-ghost use Rattle.std.specs.Prelude.{◌≡◌, ◌<◌, length, slice_get, Some, Ok, unsigned_abs};
+ghost use Rattle.std.specs.Prelude.{◌≡◌, ◌<◌, length, pos, slice_get, Some, Ok, unsigned_abs};
 ghost use Rattle.dm_types.specs.Ranges.{IsWellFormed};
 ghost use Rattle.dm_types.specs.Then.{go};
 ghost use Rattle.parquet_pages.specs.Answers.{Gives};
@@ -15,7 +15,8 @@ use parquet_pages::{ColumnReader, FileFault, fits, laws};
 use std::alloc::Global;
 use std::marker::Model;
 
-/// A Parquet file whose bytes are lent.
+/// A Parquet file whose bytes are lent. Its footer is sound: no count of rows is negative, they add
+/// up, and each row group has one chunk for each leaf.
 #[derive(Drop)]
 pub struct ParquetFile<'a> {
     pub(crate) pages: &'a [u8],
@@ -24,16 +25,19 @@ pub struct ParquetFile<'a> {
 
 impl<'a> Model for ParquetFile<'a> {
     ghost use Rattle.parquet_file.specs.File.{Opened};
+    ghost use Rattle.parquet_meta.specs.Meaning.{IsSound};
 
     ghost Value = { Opened };
 
     ghost view = { λ file. record { pages = file.pages.now; footer = file.footer } };
+
+    ghost invariant = { λ file. IsSound file.footer };
 }
 
 impl<'a> ParquetFile<'a> {
     /// How many rows the file has. It takes no memory.
     pub fn rows(&self) -> u64
-        ensures { result ≡ unsigned_abs self.now.footer.rows }
+        ensures { pos result ≡ self.now.footer.rows }
     {
         count_of(self.footer.rows)
     }

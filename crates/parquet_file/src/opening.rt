@@ -1,7 +1,8 @@
 // Opening a file.
-ghost use Rattle.std.specs.Prelude.{◌≡◌, option_map};
+ghost use Rattle.std.specs.Prelude.{◌≡◌, option_map, IfOk};
 ghost use Rattle.parquet_pages.specs.Answers.{GivesBody};
 ghost use Rattle.parquet_file.specs.File as spec;
+ghost use Rattle.parquet_meta.specs.Meaning.{IsSound};
 
 use crate::file::ParquetFile;
 use byteorder::{ByteOrder, LittleEndian};
@@ -39,7 +40,8 @@ fn file_parts(bytes: &[u8]) -> Option<(&[u8], &[u8])>
 /// another form or the footer is bad, by `parquet_meta::read_footer`.
 #[tactic(auto, unfolding(crate::specs::File::opened))]
 pub fn open_file(alloc: Global, bytes: &[u8]) -> Result<ParquetFile<'_>, FileFault>
-    ensures { GivesBody (λ file. file) (spec.opened bytes.now) result }
+    ensures file { GivesBody (λ file. file) (spec.opened bytes.now) result }
+    ensures sound { IfOk result (λ file. IsSound file.footer) }
 {
     let Some((pages, footer)) = file_parts(bytes) else {
         return Err(FileFault::BadParquet);

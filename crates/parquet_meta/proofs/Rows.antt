@@ -1,5 +1,5 @@
 -- What is left of a file's rows, group by group.
-use Rattle.std.proofs.Common.{◌≡◌, ℕ, suc, ◌+◌, ◌<◌, List, [], ◌∷◌, length, get_or, drop, Bool, true, false, refl, sym, ap, ◌∙◌, arith, drop-cons, ℤ, pos, ◌+ℤ◌, ◌≤ℤ◌, ◌<ℤ◌}
+use Rattle.std.proofs.Common.{◌≡◌, ℕ, suc, ◌+◌, ◌<◌, List, [], ◌∷◌, length, get_or, drop, Bool, true, false, refl, sym, ap, subst, ◌∙◌, arith, drop-cons, ℤ, pos, ◌+ℤ◌, ◌≤ℤ◌, ◌<ℤ◌}
 use Rattle.std.specs.Prelude.{◌&&◌}
 use Rattle.std.specs.List.{list_all}
 use Rattle.std.specs.Ordering.{int_eq}
@@ -7,7 +7,8 @@ use Rattle.std.specs.Int.Signed.{le_z}
 use Rattle.std.proofs.lemmas.Int.{ints}
 use Rattle.std.proofs.lemmas.Bool.Decides.{Decides-int_eq}
 use Rattle.parquet_meta.specs.declared.metadata.RowGroup.{RowGroup}
-use Rattle.parquet_meta.specs.Meaning.{total_rows, rows_add_up}
+use Rattle.parquet_meta.specs.declared.metadata.Footer.{Footer}
+use Rattle.parquet_meta.specs.Meaning.{total_rows, rows_add_up, has_chunks, groups_fit, IsSound}
 
 abbrev nonneg : List RowGroup → Bool
 nonneg gs = list_all (λ group. le_z (pos 0) group.rows) gs
@@ -60,3 +61,11 @@ module _ (groups : List RowGroup) (place : ℕ) (g : RowGroup) (stands : (place 
 
   pub past : left <ℤ g.rows → total ≡ false
   past h = opened ∙ past_one left g (drop (place + 1) groups) h
+
+-- the file's rows, where its groups fit
+pub sound : (f : Footer) → groups_fit f.rows f.leaves f.groups ≡ true → IsSound f
+sound f fit =
+    let added : rows_add_up f.rows f.groups ≡ true = and_right (list_all (has_chunks f.leaves) f.groups) (rows_add_up f.rows f.groups) fit in
+    let total : pos 0 ≤ℤ total_rows f.groups = total-nonneg f.groups (and_left (nonneg f.groups) (int_eq (total_rows f.groups) f.rows) added) in
+    let same : total_rows f.groups ≡ f.rows = (Decides-int_eq (total_rows f.groups) f.rows).0 (and_right (nonneg f.groups) (int_eq (total_rows f.groups) f.rows) added) in
+    record { rows = subst (λ (z : ℤ). pos 0 ≤ℤ z) same total; groups = fit }

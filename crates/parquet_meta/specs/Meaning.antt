@@ -1,5 +1,5 @@
 -- What a footer says (parquet.thrift, FileMetaData), and which bytes are one.
-use Rattle.std.specs.Prelude.{ℕ, ℤ, pos, ◌+ℤ◌, ◌==◌, ◌&&◌, not, Bool, if◌then◌else◌, List, [], ◌∷◌, length, zip}
+use Rattle.std.specs.Prelude.{ℕ, ℤ, pos, ◌+ℤ◌, ◌==◌, ◌&&◌, not, Bool, if◌then◌else◌, List, [], ◌∷◌, length, zip, ◌≤ℤ◌, ◌≡◌, true}
 use Rattle.std.specs.Prelude.{Option, Some, None, Result, Ok, Err}
 use Rattle.std.specs.List.{list_all}
 use Rattle.std.specs.Ordering.{int_eq}
@@ -38,6 +38,11 @@ rows_add_up rows groups = list_all (λ group. le_z (pos 0) group.rows) groups &&
 
 abbrev pub groups_fit : ℤ → List LeafSchema → List RowGroup → Bool
 groups_fit rows leaves groups = list_all (has_chunks leaves) groups && rows_add_up rows groups
+
+-- what every footer that is read has: no count of rows is negative, and each row group has one chunk for each leaf
+pub record IsSound (f : Footer) : Type 0 where
+  pub rows : pos 0 ≤ℤ f.rows
+  pub groups : groups_fit f.rows f.leaves f.groups ≡ true
 
 -- FileMetaData
 abbrev pub footer_of : List Field → Option Footer

@@ -1,11 +1,11 @@
 // Reading a footer and a page header.
-ghost use Rattle.std.specs.Prelude.{◌≡◌, pos, length, zip};
+ghost use Rattle.std.specs.Prelude.{◌≡◌, pos, length, zip, IfOk};
 ghost use Rattle.std.specs.List.{list_all};
 ghost use Rattle.std.specs.Int.Signed.{le_z};
 ghost use Rattle.parquet_meta.specs.Gives.{Gives};
 ghost use Rattle.parquet_meta.specs.Meaning.{is_chunk as is_chunk_of, groups_fit as groups_fit_of};
 ghost use Rattle.parquet_meta.specs.Meaning.{has_chunks as has_chunks_of, rows_add_up as rows_add_up_of, footer_of};
-ghost use Rattle.parquet_meta.specs.Meaning.{footer_in, page_header_in};
+ghost use Rattle.parquet_meta.specs.Meaning.{footer_in, page_header_in, IsSound};
 
 use crate::elements::Element;
 use crate::fault::MetaFault;
@@ -67,14 +67,16 @@ fn have_chunks(leaves: &LeafList, groups: &[RowGroup]) -> bool
     groups.iter().all(|group| has_chunks(leaves, group))
 }
 
-fn groups_fit(rows: i64, leaves: &LeafList, groups: &[RowGroup]) -> bool
-    ensures { result ≡ groups_fit_of rows leaves.now groups.now }
+fn groups_fit(footer: &Footer) -> bool
+    ensures { result ≡ groups_fit_of footer.now.rows footer.now.leaves footer.now.groups }
 {
-    have_chunks(leaves, groups) && rows_add_up(rows, groups)
+    let groups = footer.groups.as_slice();
+    have_chunks(&footer.leaves, groups) && rows_add_up(footer.rows, groups)
 }
 
 fn footer(alloc: Global, tree: &Tree) -> Result<Footer, MetaFault>
-    ensures { Gives (footer_of tree.now) result }
+    ensures footer { Gives (footer_of tree.now) result }
+    ensures sound { IfOk result IsSound }
 {
     let _version: i32 = needed(alloc, tree, 1)?;
     let elements: Items<Element> = needed_list(alloc, tree, 2)?;
@@ -84,14 +86,16 @@ fn footer(alloc: Global, tree: &Tree) -> Result<Footer, MetaFault>
     checked(tree, 6, Shape::Binary)?;
     checked(tree, 7, Shape::Structs)?;
     let leaves = schema_leaves(alloc, elements.as_slice())?;
-    if !groups_fit(rows, &leaves, groups.as_slice()) {
-        return Err(MetaFault::BadFooter);
-    }
-    Ok(Footer {
+    let footer = Footer {
         rows,
         leaves,
         groups,
-    })
+    };
+    if groups_fit(&footer) {
+        Ok(footer)
+    } else {
+        Err(MetaFault::BadFooter)
+    }
 }
 
 /// The footer that the bytes are, none left over.
@@ -103,7 +107,9 @@ fn footer(alloc: Global, tree: &Tree) -> Result<Footer, MetaFault>
 /// chunk for each leaf, of the leaf's type and in this file; rows that are negative or don't add up.
 #[tactic(auto, unfolding(crate::specs::Meaning::footer_in))]
 pub fn read_footer(alloc: Global, bytes: &[u8]) -> Result<Footer, MetaFault>
-    ensures { Gives (footer_in bytes.now) result }
+    ensures footer { Gives (footer_in bytes.now) result }
+    // No count of rows is negative, they add up, and each row group has one chunk for each leaf.
+    ensures sound { IfOk result IsSound }
 {
     match read_struct(alloc, bytes) {
         Ok((tree, size)) if size == bytes.len() => footer(alloc, &tree),

@@ -24,7 +24,10 @@ text_size values = sum_by text_bytes values
 abbrev pub grown_by : List Value → KeptColumn → Option KeptColumn
 grown_by more kept =
     if nat_le (text_size more) kept.text_left
-    then Some (record { column = record { kind = kept.column.kind; values = kept.column.values ++ more }; text_left = kept.text_left - text_size more })
+    then Some (record {
+      column = record { kind = kept.column.kind; values = kept.column.values ++ more };
+      text_left = kept.text_left - text_size more;
+    })
     else None
 
 -- values more; None once their text has passed the limit
@@ -33,11 +36,18 @@ grown more kept = kept >>= grown_by more
 
 -- room for text taken from the limit
 abbrev pub roomed : ℕ → Option KeptColumn → Option KeptColumn
-roomed size kept = kept >>= λ it. if nat_le size it.text_left then Some (record { column = it.column; text_left = it.text_left - size }) else None
+roomed size kept =
+    kept >>= λ it. if nat_le size it.text_left
+    then Some (record { column = it.column; text_left = it.text_left - size })
+    else None
 
 -- a value more, for which there is room
 abbrev pub with_value : Value → Option KeptColumn → Option KeptColumn
-with_value v kept = option_map (λ it. record { column = record { kind = it.column.kind; values = it.column.values ++ v ∷ [] }; text_left = it.text_left }) kept
+with_value v kept =
+    option_map (λ it. record {
+      column = record { kind = it.column.kind; values = it.column.values ++ v ∷ [] };
+      text_left = it.text_left;
+    }) kept
 
 -- what is kept is a column of the type
 abbrev pub IsKeptOf : DataType → Option KeptColumn → Type 0
@@ -53,7 +63,11 @@ with_more more reading = record { kind = reading.kind; nullable = reading.nullab
 
 -- nothing is read yet
 abbrev pub begun : DataType → Bool → ℕ → Reading
-begun kind nullable text_left = record { kind = kind; nullable = nullable; kept = Some (record { column = record { kind = kind; values = [] }; text_left = text_left }) }
+begun kind nullable text_left = record {
+  kind = kind;
+  nullable = nullable;
+  kept = Some (record { column = record { kind = kind; values = [] }; text_left = text_left });
+}
 
 -- the column, unless its text has passed the limit
 abbrev pub finished : Option KeptColumn → Result Cells FileFault

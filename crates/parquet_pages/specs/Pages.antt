@@ -1,4 +1,5 @@
--- What the pages of a column chunk mean: entries, or the first fault (parquet.thrift, PageHeader, DataPageHeader, DictionaryPageHeader).
+-- What the pages of a column chunk mean: entries, or the first fault (parquet.thrift, PageHeader, DataPageHeader,
+-- DictionaryPageHeader).
 use Rattle.std.specs.Prelude.{ℕ, zero, suc, ℤ, pos, ◌-◌, ◌==◌, ◌&&◌, ◌||◌, not, int_le, unsigned_abs, Bool, true, false, if◌then◌else◌, List, [], ◌∷◌, ◌++◌, length, drop, map, replicate, Option, Some, None, option_map, Result, Ok, Err}
 use Rattle.std.specs.Ordering.{int_eq}
 use Rattle.byteorder.specs.Endian.{little_number}
@@ -185,7 +186,8 @@ abbrev pub page_entries : Wanted → State → PageHeader → List ℕ → Answe
 page_entries wanted state header body =
     go (or_else fault.BadParquet (role_of state.first state.left header)) (λ role. take_page wanted state role body)
 
--- the entries of pages, one after the other, until there are as many as the chunk has; each page has a byte, so there are at most as many as bytes
+-- the entries of pages, one after the other, until there are as many as the chunk has; each page has a byte, so there
+-- are at most as many as bytes
 unfoldable pub pages_at : ℕ → Wanted → State → List ℕ → Answer (List Value)
 pages_at zero wanted state bytes = if state.left == 0 then Ok [] else Err fault.BadParquet
 pages_at (suc most) wanted state bytes =

@@ -22,7 +22,8 @@ abbrev pub each : {A : Type 0} → (A → Physical) → Result (List A) Wrong �
 each physical (Ok values) = Some (map physical values)
 each physical (Err wrong) = None
 
--- the values that bytes are, which are to be so many; fixed arrays have `size` bytes. No column is read of FLOAT and DOUBLE, so their bytes mean no values
+-- the values that bytes are, which are to be so many; fixed arrays have `size` bytes. No column is read of FLOAT and
+-- DOUBLE, so their bytes mean no values
 abbrev pub plain : (type size count : ℕ) → List ℕ → Option (List Physical)
 plain type size count bytes =
     if type == BOOLEAN then each flag (whole (flags_at count bytes))

@@ -1,4 +1,5 @@
--- How columns are written: the leaf of a type, and how each value stands in a page (LogicalTypes.md; parquet.thrift, SchemaElement).
+-- How columns are written: the leaf of a type, and how each value stands in a page (LogicalTypes.md; parquet.thrift,
+-- SchemaElement).
 use Rattle.std.specs.Prelude.{ℕ, ◌-◌, ◌*◌, ◌^◌, ◌==◌, nat_le, Bool, true, false, if◌then◌else◌, ℤ, pos, List, [], ◌∷◌, map, Option, Some, None}
 use Rattle.std.specs.List.{filter, range_with_len}
 use Rattle.std.specs.Int.{w128}
@@ -29,7 +30,8 @@ abbrev pub decimal_size : ℕ → ℕ
 decimal_size precision = first_that (has_room precision) (range_with_len 1 16)
 
 abbrev pub decimal_type : ℕ → ℕ
-decimal_type precision = if nat_le precision 9 then INT32 else if nat_le precision 18 then INT64 else FIXED_LEN_BYTE_ARRAY
+decimal_type precision =
+    if nat_le precision 9 then INT32 else if nat_le precision 18 then INT64 else FIXED_LEN_BYTE_ARRAY
 
 abbrev pub type_of : DataType → ℕ
 type_of kind.Void = BOOLEAN
@@ -46,7 +48,8 @@ type_of (kind.Decimal precision scale) = decimal_type precision
 
 -- of a fixed array; 0 for the other types
 abbrev pub length_of : DataType → ℕ
-length_of (kind.Decimal precision scale) = if decimal_type precision == FIXED_LEN_BYTE_ARRAY then decimal_size precision else 0
+length_of (kind.Decimal precision scale) =
+    if decimal_type precision == FIXED_LEN_BYTE_ARRAY then decimal_size precision else 0
 length_of k = 0
 
 -- ConvertedType

@@ -73,10 +73,12 @@ raw_size v = 0
 
 -- an array of bytes has a length that fits; a fixed array has the length of its leaf
 abbrev pub CanStand : ℕ → ℕ → Physical → Type 0
-CanStand type size (raw bytes) = (type ≡ BYTE_ARRAY → length bytes < 2 ^ 32) × (type ≡ FIXED_LEN_BYTE_ARRAY → length bytes ≡ size)
+CanStand type size (raw bytes) =
+    (type ≡ BYTE_ARRAY → length bytes < 2 ^ 32) × (type ≡ FIXED_LEN_BYTE_ARRAY → length bytes ≡ size)
 CanStand type size v = ⊤
 
--- values went to the end, each in the bytes of its physical type: they are read as these, and take at most 8 bytes each beside their own
+-- values went to the end, each in the bytes of its physical type: they are read as these, and take at most 8 bytes
+-- each beside their own
 pub record AppendsPlain (type size : ℕ) (values : List Physical) (old new : List ℕ) : Type 0 where
   pub written : List ℕ
   pub joined : new ≡ old ++ written

@@ -18,5 +18,7 @@ abbrev pub OneGoesInto : {U : Type 0} → Option Value → Reading → Reading �
 OneGoesInto known old new result = GoesInto (go (or_else fault.Range known) (λ v. Ok (v ∷ []))) old new result
 
 -- the values of a page went into the column, with the state behind it; or it is the first fault
-abbrev pub PageGoesInto : {U : Type 0} → Answer (List Value × State) → Reading → Reading → State → Result U FileFault → Type 0
-PageGoesInto known old new state result = Gives {A = Reading × State} (λ done. (new, state)) (go known (λ page. Ok (with_more page.0 old, page.1))) result
+abbrev pub PageGoesInto : {U : Type 0} → Answer (List Value × State) → Reading → Reading → State → Result U FileFault
+    → Type 0
+PageGoesInto known old new state result =
+    Gives {A = Reading × State} (λ done. (new, state)) (go known (λ page. Ok (with_more page.0 old, page.1))) result

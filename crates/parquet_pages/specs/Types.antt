@@ -67,12 +67,14 @@ is_told (Some unit) = true
 
 abbrev pub holds_decimal : ℕ → LeafSchema → Bool
 holds_decimal scale leaf =
-    (leaf.physical == INT32 || leaf.physical == INT64 || leaf.physical == BYTE_ARRAY || leaf.physical == FIXED_LEN_BYTE_ARRAY)
+    (leaf.physical == INT32 || leaf.physical == INT64 || leaf.physical == BYTE_ARRAY
+    || leaf.physical == FIXED_LEN_BYTE_ARRAY)
     && has_scale scale (scale_of leaf.annotation)
 
 abbrev pub holds_moment : LeafSchema → Bool
 holds_moment leaf =
-    leaf.physical == INT96 || leaf.physical == INT64 && is_told (micros_of leaf.annotation.logical leaf.annotation.converted)
+    leaf.physical == INT96
+    || leaf.physical == INT64 && is_told (micros_of leaf.annotation.logical leaf.annotation.converted)
 
 abbrev pub holds : DataType → LeafSchema → Bool
 holds kind.Void leaf = false

@@ -63,7 +63,8 @@ ArePlain column bytes =
     let values = stored_values column.kind column.values in
     plain (type_of column.kind) (length_of column.kind) (length values) bytes ≡ Some values
 
--- a page went to the end: its levels are runs of width 1, and its values are PLAIN, each in the bytes of its physical type
+-- a page went to the end: its levels are runs of width 1, and its values are PLAIN, each in the bytes of its physical
+-- type
 pub record WritesChunk (column : Cells) (old new : List ℕ) (meta : ChunkMeta) : Type 0 where
   pub levels : List ℕ
   pub values : List ℕ
@@ -82,5 +83,6 @@ abbrev pub IsReadBack : Cells → List ℕ → ChunkMeta → Type 0
 IsReadBack column file meta =
     (more name : List ℕ) (field_id : Option ℤ) (nullable : Bool) → TakesNulls nullable column.values
     → let leaf = leaf_of name field_id column.kind in
-    chunk_values (file ++ more) meta (record { kind = column.kind; nullable = nullable; leaf = leaf }) (length column.values)
+    chunk_values (file ++ more) meta (record { kind = column.kind; nullable = nullable; leaf = leaf })
+    (length column.values)
     ≡ Ok column.values

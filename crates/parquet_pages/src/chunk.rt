@@ -55,7 +55,8 @@ pub(crate) fn take_chunk(
     rows: usize,
 ) -> Result<(), FileFault>
     requires { IsReading reading.old }
-    ensures { GoesInto (spec.chunk_values file.now chunk.now (wanted reading.old leaf.now) rows) reading.old reading.new result }
+    ensures { GoesInto (spec.chunk_values file.now chunk.now (wanted reading.old leaf.now) rows)
+        reading.old reading.new result }
 {
     if chunk.codec != UNCOMPRESSED {
         return Err(FileFault::Compressed);

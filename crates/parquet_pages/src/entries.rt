@@ -62,7 +62,8 @@ fn take_plain(
     value: PlainValue<'_>,
 ) -> Result<(), FileFault>
     requires { IsReading reading.old }
-    ensures { OneGoesInto (plain_value reading.old.kind annotation.now (seen value.entry)) reading.old reading.new result }
+    ensures { OneGoesInto (plain_value reading.old.kind annotation.now (seen value.entry))
+        reading.old reading.new result }
 {
     match plain_value(&reading.kind, annotation, value) {
         Some(found) => Ok(keep(&mut reading.kept, found)?),
@@ -125,7 +126,8 @@ fn take_entry(
     entry: Option<PlainValue<'_>>,
 ) -> Result<(), FileFault>
     requires { IsReading reading.old }
-    ensures { OneGoesInto (entry_value (wanted reading.old leaf.now) (option_map seen entry.entry)) reading.old reading.new result }
+    ensures { OneGoesInto (entry_value (wanted reading.old leaf.now) (option_map seen entry.entry))
+        reading.old reading.new result }
 {
     match entry {
         Some(value) => take_value(alloc, reading, &leaf.annotation, value),
@@ -144,7 +146,8 @@ pub(crate) fn take_entries(
 ) -> Result<(), FileFault>
     requires { IsReading reading.old }
     ensures { (named : List Physical) → chosen (page_values values.now) order.now ≡ Some named
-        → GoesInto (or_else Range (column_values (wanted reading.old leaf.now) (record { levels = level_list levels.now; values = named })))
+        → GoesInto (or_else Range (column_values (wanted reading.old leaf.now)
+        (record { levels = level_list levels.now; values = named })))
         reading.old reading.new result }
 {
     let mut before = 0;

@@ -72,7 +72,8 @@ fn read_told(alloc: Global, bytes: &[u8], count: usize) -> Result<Levels, FileFa
 
 // Levels behind their length in four bytes, and the bytes behind them.
 fn read_rle(alloc: Global, bytes: &[u8], count: usize) -> Result<(Levels, &[u8]), FileFault>
-    ensures { GivesBody {A = List ℕ × List ℕ} (λ found. (level_list found.0, found.1.now)) (rle_levels count bytes.now) result }
+    ensures { GivesBody {A = List ℕ × List ℕ} (λ found. (level_list found.0, found.1.now))
+        (rle_levels count bytes.now) result }
 {
     let Some((head, behind)) = bytes.split_at_checked(4) else {
         return Err(FileFault::BadParquet);
@@ -93,7 +94,8 @@ pub(crate) fn read_levels(
     bytes: &[u8],
     count: usize,
 ) -> Result<(Levels, &[u8]), FileFault>
-    ensures { GivesBody {A = List ℕ × List ℕ} (λ found. (level_list found.0, found.1.now)) (levels_at optional count bytes.now) result }
+    ensures { GivesBody {A = List ℕ × List ℕ} (λ found. (level_list found.0, found.1.now))
+        (levels_at optional count bytes.now) result }
 {
     if optional {
         read_rle(alloc, bytes, count)

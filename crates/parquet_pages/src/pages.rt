@@ -86,7 +86,8 @@ fn take_named(
 ) -> Result<(), FileFault>
     requires { IsReading reading.old }
     ensures { GoesInto (spec.entries_of (wanted reading.old leaf.now) (level_list levels.now)
-        (spec.dictionary_values (Some (page_values dictionary.now)) (full (level_list levels.now)) bytes.now)) reading.old reading.new result }
+        (spec.dictionary_values (Some (page_values dictionary.now)) (full (level_list levels.now)) bytes.now))
+        reading.old reading.new result }
 {
     let order = read_order(alloc, dictionary, bytes, levels.count_full())?;
     take_entries(alloc, reading, leaf, levels, &order, dictionary)
@@ -104,7 +105,9 @@ fn take_values(
 ) -> Result<(), FileFault>
     requires { IsReading reading.old }
     ensures { GoesInto (spec.entries_of (wanted reading.old leaf.now) (level_list levels.now)
-        (spec.page_values leaf.now (option_map page_values dictionary.now) encoding (full (level_list levels.now)) bytes.now)) reading.old reading.new result }
+        (spec.page_values leaf.now (option_map page_values dictionary.now) encoding (full (level_list levels.now))
+        bytes.now))
+        reading.old reading.new result }
 {
     if encoding == PLAIN {
         return take_plain(alloc, reading, leaf, levels, bytes);
@@ -125,7 +128,9 @@ fn take_data(
     body: &[u8],
 ) -> Result<(), FileFault>
     requires { IsReading reading.old }
-    ensures { GoesInto (spec.data_page (wanted reading.old leaf.now) (option_map page_values dictionary.now) header.now body.now) reading.old reading.new result }
+    ensures { GoesInto (spec.data_page (wanted reading.old leaf.now) (option_map page_values dictionary.now)
+        header.now body.now)
+        reading.old reading.new result }
 {
     if !is_known(leaf.optional, header) {
         return Err(FileFault::Encoding);
@@ -217,7 +222,8 @@ fn take_counted(
     body: &[u8],
 ) -> Result<(), FileFault>
     requires { IsReading reading.old }
-    ensures { PageGoesInto (spec.take_page (wanted reading.old leaf.now) (state_of progress.old) (role.Entries page.now) body.now)
+    ensures { PageGoesInto (spec.take_page (wanted reading.old leaf.now) (state_of progress.old)
+        (role.Entries page.now) body.now)
         reading.old reading.new (state_of progress.new) result }
 {
     take_data(alloc, reading, leaf, &progress.dictionary, page, body)?;
@@ -237,7 +243,8 @@ fn take_dictionary<'a>(
     page: &DictionaryPage,
     body: &'a [u8],
 ) -> Result<(), FileFault>
-    ensures { PageGoesInto (spec.take_page (wanted reading.now leaf.now) (state_of progress.old) (role.Dictionary page.now) body.now)
+    ensures { PageGoesInto (spec.take_page (wanted reading.now leaf.now) (state_of progress.old)
+        (role.Dictionary page.now) body.now)
         reading.now reading.now (state_of progress.new) result }
 {
     let values = read_dictionary(alloc, leaf, page, body)?;
@@ -282,7 +289,9 @@ fn take_each<'a>(
     bytes: &'a [u8],
 ) -> Result<(), FileFault>
     requires { IsReading reading.old }
-    ensures { GoesInto (spec.pages_at (length bytes.now) (wanted reading.old leaf.now) (state_of progress.old) bytes.now) reading.old reading.new result }
+    ensures { GoesInto (spec.pages_at (length bytes.now) (wanted reading.old leaf.now) (state_of progress.old)
+        bytes.now)
+        reading.old reading.new result }
 {
     let mut rest = bytes;
     // Each page has a byte.
@@ -310,7 +319,8 @@ pub(crate) fn take_pages(
     bytes: &[u8],
 ) -> Result<(), FileFault>
     requires { IsReading reading.old }
-    ensures { GoesInto (spec.pages_at (length bytes.now) (wanted reading.old leaf.now) (spec.begun rows) bytes.now) reading.old reading.new result }
+    ensures { GoesInto (spec.pages_at (length bytes.now) (wanted reading.old leaf.now) (spec.begun rows) bytes.now)
+        reading.old reading.new result }
 {
     let mut progress = Progress {
         first: true,

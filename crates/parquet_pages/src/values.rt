@@ -51,7 +51,8 @@ fn read_named(
     bytes: &[u8],
     count: usize,
 ) -> Result<Order, FileFault>
-    ensures { GivesOrder (page_values dictionary.now) (named_values (page_values dictionary.now) count bytes.now) result }
+    ensures { GivesOrder (page_values dictionary.now)
+        (named_values (page_values dictionary.now) count bytes.now) result }
 {
     let Some((width, runs)) = bytes.split_first() else {
         return Err(FileFault::BadParquet);
