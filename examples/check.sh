@@ -38,7 +38,7 @@ runs 'a folder among commit files' 'SHOW FILES folders;' 'refused 1: O1' 1
 mkdir -p bytes/_delta_log && : >"bytes/$log" && : >$'bytes/_delta_log/\xff'
 runs 'a name that is no UTF-8' 'SHOW FILES bytes;' '' 4
 
-"$program" <"$examples/show.sql" >&-
+"$program" <<<'SHOW FILES t;' >&-
 status=$?
 [[ $status == 5 ]] || differs 'a closed standard output' "status $status"
 "$program" word >written </dev/null
