@@ -13,7 +13,7 @@ use Rattle.std.proofs.Math.Seq.{drop-append_seam, take-append_seam}
 use Rattle.std.specs.Int.Signed.{le_z}
 use Rattle.std.specs.List.{AllByRecursion, list_all, zip}
 use Rattle.std.specs.Ordering.{int_eq}
-use Rattle.std.specs.Prelude.{◌&&◌, not, nat_lt, ◌==◌, unsigned_abs, option_map}
+use Rattle.std.specs.Prelude.{◌&&◌, not, nat_lt, ◌==◌, option_map}
 use Rattle.std.specs.Str.{bytes_eq}
 use Rattle.byteorder.specs.Endian.{little_bytes, little_number}
 use Rattle.byteorder.specs.Numbers.{little_from-bytes}
@@ -31,7 +31,7 @@ use Rattle.parquet_pages.specs.Stored.{leaf_of, type_of}
 use Rattle.parquet_pages.specs.Types.{fits}
 use Rattle.parquet_pages.specs.Writing.{TakesNulls}
 use Rattle.parquet_file.specs.Chunks.{GoesOn}
-use Rattle.parquet_file.specs.File.{Opened, column_of, cut_footer, file_parts, groups_values, magic, opened}
+use Rattle.parquet_file.specs.File.{Opened, chunks_values, column_of, cut_footer, file_parts, magic, opened}
 use Rattle.parquet_file.specs.Writing.{IsWritableFile, IsWritableFileColumn, file_leaf, footer_of, named, rows_of, total_size}
 use Rattle.parquet_file.specs.declared.columns.FileColumn.{FileColumn}
 use Rattle.parquet_file.proofs.ChunksWritten.{chunk-back}
@@ -161,13 +161,13 @@ opened-back pages more footer_bytes footer begins few reads =
 -- ---- its columns are read
 
 -- a column of one row group by what is found
-read_by : (file : Opened) (i : ℕ) (kind : DataType) (nullable : Bool) (text_left : ℕ) (leaf : LeafSchema) (group : RowGroup) (chunk : ChunkMeta) (values : List Value)
-    → slice_get file.footer.leaves i ≡ Some leaf → fits kind leaf ≡ true → file.footer.groups ≡ group ∷ [] → slice_get group.chunks i ≡ Some chunk
-    → chunk_values file.pages chunk (record { kind = kind; nullable = nullable; leaf = leaf }) (unsigned_abs group.rows) ≡ Ok values
-    → column_of file i kind nullable text_left ≡ within text_left values
-unfolding column_of groups_values
-read_by file i kind nullable text_left leaf group chunk values at good only stands read =
-    rw (at, good, only, stands, read) (ap (within text_left) (append-nil values))
+read_by : (file : Opened) (i : ℕ) (wanted : Wanted) (text_left : ℕ) (group : RowGroup) (chunk : ChunkMeta) (rows : ℕ) (values : List Value)
+    → fits wanted.kind wanted.leaf ≡ true → file.footer.groups ≡ group ∷ [] → slice_get group.chunks i ≡ Some chunk → group.rows ≡ pos rows
+    → chunk_values file.pages chunk wanted rows ≡ Ok values
+    → column_of file i wanted text_left ≡ within text_left values
+unfolding column_of chunks_values
+read_by file i wanted text_left group chunk rows values good only stands told read =
+    rw (good, only, stands, told, read) (ap (within text_left) (append-nil values))
 
 -- the path of a chunk isn't looked at
 path-free : (file : List ℕ) (c : FileColumn) (chunk : ChunkMeta) (wanted : Wanted) (rows : ℕ) → chunk_values file (named c chunk) wanted rows ≡ chunk_values file chunk wanted rows
@@ -176,11 +176,10 @@ path-free file c chunk wanted rows = refl
 
 pub column-back : (columns : List FileColumn) (old new : List ℕ) (chunks : List ChunkMeta) → IsWritableFile columns → GoesOn columns old new chunks
     → (i : ℕ) (c : FileColumn) (nullable : Bool) (text_left : ℕ) → slice_get columns i ≡ Some c → TakesNulls nullable c.column.values
-    → column_of (record { pages = new; footer = footer_of columns chunks }) i c.kind nullable text_left ≡ within text_left c.column.values
+    → column_of (record { pages = new; footer = footer_of columns chunks }) i (record { kind = c.kind; nullable = nullable; leaf = file_leaf c }) text_left ≡ within text_left c.column.values
 column-back columns old new chunks writable w i c nullable text_left at takes =
     let formed : IsWritableFileColumn (rows_of columns) c = subst (IsWritableFileColumn (rows_of columns)) (get_or_from_slice_get columns i c c at) (writable.each i c (slice_get_within columns i c at)) in
     let place = chunk-back columns old new chunks w i c at in
-    let leaf_at : slice_get (map file_leaf columns) i ≡ Some (file_leaf c) = slice_get-map file_leaf columns i ∙ ap (option_map file_leaf) at in
     let good : fits c.kind (file_leaf c) ≡ true = leaf-fits c.name c.field_id c.kind (λ e. formed.column.real (formed.kind ∙ e)) in
     let read : chunk_values (new ++ []) place.bare (record { kind = c.column.kind; nullable = nullable; leaf = leaf_of c.name c.field_id c.column.kind }) (length c.column.values) ≡ Ok c.column.values = place.back [] c.name c.field_id nullable takes in
     let P : List ℕ → DataType → ℕ → Type 0 = λ file kind rows. chunk_values file place.bare (record { kind = kind; nullable = nullable; leaf = leaf_of c.name c.field_id kind }) rows ≡ Ok c.column.values in
@@ -189,5 +188,5 @@ column-back columns old new chunks writable w i c nullable text_left at takes =
     let counted : P new c.kind (rows_of columns) = subst (λ (rows : ℕ). P new c.kind rows) formed.rows typed in
     let file : Opened = record { pages = new; footer = footer_of columns chunks } in
     let group : RowGroup = record { bytes = total_size chunks; rows = pos (rows_of columns); chunks = chunks } in
-    read_by file i c.kind nullable text_left (file_leaf c) group (named c place.bare) c.column.values leaf_at good refl place.stands
+    read_by file i (record { kind = c.kind; nullable = nullable; leaf = file_leaf c }) text_left group (named c place.bare) (rows_of columns) c.column.values good refl place.stands refl
     (path-free new c place.bare (record { kind = c.kind; nullable = nullable; leaf = file_leaf c }) (rows_of columns) ∙ counted)

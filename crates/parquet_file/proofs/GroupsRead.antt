@@ -1,5 +1,5 @@
 -- A column that is read of row groups, one after the other.
-use Rattle.std.proofs.Common.{◌≡◌, ℕ, ◌+◌, ◌<◌, ◌≤◌, Bool, true, false, List, [], ◌∷◌, ◌++◌, Option, Some, None, Result, Ok, Err, suc, length, get_or, drop, drop-cons, unsigned_abs, slice_get, refl, sym, ap, ◌∙◌, subst, arith}
+use Rattle.std.proofs.Common.{◌≡◌, ℕ, ◌+◌, ◌<◌, ◌≤◌, Bool, true, false, List, [], ◌∷◌, ◌++◌, Option, Some, None, Result, Ok, Err, suc, length, get_or, drop, drop-cons, pos, slice_get, refl, sym, ap, ◌∙◌, subst, arith}
 use Rattle.std.proofs.lemmas.List.{drop_all}
 use Rattle.column_vectors.specs.Cells.{Cells}
 use Rattle.dm_types.specs.Then.{go}
@@ -18,7 +18,7 @@ use Rattle.parquet_pages.specs.declared.fault.FileFault.{FileFault}
 use Rattle.parquet_pages.specs.declared.fault.FileFault.TheVariants as fault
 use Rattle.parquet_pages.specs.declared.kept.KeptColumn.{KeptColumn}
 use Rattle.parquet_pages.specs.declared.kept.Reading.{Reading}
-use Rattle.parquet_file.specs.File.{Opened, column_of, groups_values}
+use Rattle.parquet_file.specs.File.{Opened, chunks_of, chunks_values, column_of}
 
 -- the column of a type with these values
 abbrev pub cells : DataType → List Value → Answer Cells
@@ -36,7 +36,7 @@ GrowsWhole = (kind : DataType) (nullable : Bool) (text_left : ℕ) (values : Lis
 
 -- what is read, where these row groups are still to come
 abbrev pub still : List ℕ → LeafSchema → ℕ → List RowGroup → Reading → Answer Reading
-still pages leaf i groups reading = go (groups_values pages (wanted reading leaf) i groups) (λ more. Ok (with_more more reading))
+still pages leaf i groups reading = go (chunks_values pages (wanted reading leaf) (chunks_of i groups)) (λ more. Ok (with_more more reading))
 
 step_by : GrowsMore → (answer later : Answer (List Value)) (reading new : Reading)
     → go answer (λ values. Ok (with_more values reading)) ≡ Ok new
@@ -56,16 +56,14 @@ same_wanted (Err f) reading new leaf e = absurd (cc)
 
 -- a row group whose chunk was read
 pub still-step : GrowsMore → (pages : List ℕ) (leaf : LeafSchema) (i : ℕ) (group : RowGroup) (groups : List RowGroup) (chunk : ChunkMeta) (rows : ℕ) (reading new : Reading)
-    → slice_get group.chunks i ≡ Some chunk → rows ≡ unsigned_abs group.rows
+    → slice_get group.chunks i ≡ Some chunk → group.rows ≡ pos rows
     → go (chunk_values pages chunk (wanted reading leaf) rows) (λ values. Ok (with_more values reading)) ≡ Ok new
     → still pages leaf i (group ∷ groups) reading ≡ still pages leaf i groups new
-unfolding groups_values
+unfolding chunks_values
 still-step grows pages leaf i group groups chunk rows reading new at told read =
-    let P : ℕ → Type 0 = λ n. go (chunk_values pages chunk (wanted reading leaf) n) (λ values. Ok (with_more values reading)) ≡ Ok new in
-    let e = subst P told read in
-    let answer : Answer (List Value) = chunk_values pages chunk (wanted reading leaf) (unsigned_abs group.rows) in
-    let moved : still pages leaf i (group ∷ groups) reading ≡ go (groups_values pages (wanted reading leaf) i groups) (λ more. Ok (with_more more new)) = rw at (step_by grows answer (groups_values pages (wanted reading leaf) i groups) reading new e) in
-    moved ∙ ap (λ (w : Wanted). go (groups_values pages w i groups) (λ more. Ok (with_more more new))) (sym (same_wanted answer reading new leaf e))
+    let answer : Answer (List Value) = chunk_values pages chunk (wanted reading leaf) rows in
+    let moved : still pages leaf i (group ∷ groups) reading ≡ go (chunks_values pages (wanted reading leaf) (chunks_of i groups)) (λ more. Ok (with_more more new)) = rw (at, told) (step_by grows answer (chunks_values pages (wanted reading leaf) (chunks_of i groups)) reading new read) in
+    moved ∙ ap (λ (w : Wanted). go (chunks_values pages w (chunks_of i groups)) (λ more. Ok (with_more more new))) (sym (same_wanted answer reading new leaf read))
 
 fails_by : (answer later : Answer (List Value)) (reading : Reading) (known : Answer Reading) (e : FileFault)
     → Gives {X = Reading} (λ reader. reader) (go answer (λ values. Ok (with_more values reading))) (Err e)
@@ -77,28 +75,32 @@ fails_by (Err f) later reading known e g k = cc
 
 -- a row group whose chunk has a fault
 pub still-fails : (pages : List ℕ) (leaf : LeafSchema) (i : ℕ) (group : RowGroup) (groups : List RowGroup) (chunk : ChunkMeta) (rows : ℕ) (reading : Reading) (known : Answer Reading) (e : FileFault) (result : Result Reading FileFault)
-    → slice_get group.chunks i ≡ Some chunk → rows ≡ unsigned_abs group.rows
+    → slice_get group.chunks i ≡ Some chunk → group.rows ≡ pos rows
     → Gives {X = Reading} (λ reader. reader) (go (chunk_values pages chunk (wanted reading leaf) rows) (λ values. Ok (with_more values reading))) (Err e)
     → known ≡ still pages leaf i (group ∷ groups) reading → result ≡ Err e
     → Gives {X = Reading} (λ reader. reader) known result
-unfolding groups_values
+unfolding chunks_values
 still-fails pages leaf i group groups chunk rows reading known e result at told g k is =
-    let P : ℕ → Type 0 = λ n. Gives {X = Reading} (λ reader. reader) (go (chunk_values pages chunk (wanted reading leaf) n) (λ values. Ok (with_more values reading))) (Err e) in
     let Q : Result Reading FileFault → Type 0 = λ r. Gives {X = Reading} (λ reader. reader) known r in
-    subst Q (sym is) (fails_by (chunk_values pages chunk (wanted reading leaf) (unsigned_abs group.rows)) (groups_values pages (wanted reading leaf) i groups) reading known e (subst P told g) (rw at at k))
-
--- a row group without a chunk
-pub still-lacks : (pages : List ℕ) (leaf : LeafSchema) (i : ℕ) (group : RowGroup) (groups : List RowGroup) (reading : Reading)
-    → slice_get group.chunks i ≡ None → still pages leaf i (group ∷ groups) reading ≡ Err fault.BadParquet
-unfolding groups_values
-still-lacks pages leaf i group groups reading at = rw at refl
+    subst Q (sym is) (fails_by (chunk_values pages chunk (wanted reading leaf) rows) (chunks_values pages (wanted reading leaf) (chunks_of i groups)) reading known e g (rw (at, told) at k))
 
 -- no row group is to come
 pub still-end : (pages : List ℕ) (leaf : LeafSchema) (i : ℕ) (reading : Reading) → with_more [] reading ≡ reading → still pages leaf i [] reading ≡ Ok reading
-unfolding groups_values
+unfolding chunks_values
 still-end pages leaf i reading none = ap Ok none
 
 -- ---- the whole column
+
+-- what is said of a column of the leaf
+abbrev pub column_says : Opened → ℕ → DataType → Bool → ℕ → Result Cells FileFault → LeafSchema → Type 0
+column_says file i kind nullable text_left result leaf =
+    Gives {X = Cells} (λ column. column) (go (column_of file i (record { kind = kind; nullable = nullable; leaf = leaf }) text_left) (cells kind)) result
+
+-- the i-th leaf is the one that was found
+pub for_leaf : (P : LeafSchema → Type 0) (leaves : List LeafSchema) (i : ℕ) (here : LeafSchema) → slice_get leaves i ≡ Some here → P here → (leaf : LeafSchema) → slice_get leaves i ≡ Some leaf → P leaf
+for_leaf P leaves i here at holds leaf also =
+    let same : here ≡ leaf = (let both : Some here ≡ Some leaf = sym at ∙ also in cc) in
+    subst P same holds
 
 start_by : GrowsWhole → (kind : DataType) (nullable : Bool) (text_left : ℕ) (answer : Answer (List Value))
     → go (go answer (within text_left)) (cells kind) ≡ go (go answer (λ more. Ok (with_more more (begun kind nullable text_left)))) (λ (reading : Reading). finished reading.kept)
@@ -112,18 +114,18 @@ still-same pages pages' leaf i groups groups' reading reading' p g r =
 
 -- a leaf that fits is read from the start
 pub column-read : GrowsWhole → (file : Opened) (i : ℕ) (kind : DataType) (nullable : Bool) (text_left : ℕ) (leaf : LeafSchema)
-    → slice_get file.footer.leaves i ≡ Some leaf → fits kind leaf ≡ true
-    → go (column_of file i kind nullable text_left) (cells kind) ≡ go (still file.pages leaf i file.footer.groups (begun kind nullable text_left)) (λ (reading : Reading). finished reading.kept)
+    → fits kind leaf ≡ true
+    → go (column_of file i (record { kind = kind; nullable = nullable; leaf = leaf }) text_left) (cells kind) ≡ go (still file.pages leaf i file.footer.groups (begun kind nullable text_left)) (λ (reading : Reading). finished reading.kept)
 unfolding column_of
-column-read whole file i kind nullable text_left leaf at good =
-    rw (at, good) (start_by whole kind nullable text_left (groups_values file.pages (record { kind = kind; nullable = nullable; leaf = leaf }) i file.footer.groups))
+column-read whole file i kind nullable text_left leaf good =
+    rw good (start_by whole kind nullable text_left (chunks_values file.pages (record { kind = kind; nullable = nullable; leaf = leaf }) (chunks_of i file.footer.groups)))
 
 -- a leaf that doesn't fit
 pub mismatch : (file : Opened) (i : ℕ) (kind : DataType) (nullable : Bool) (text_left : ℕ) (leaf : LeafSchema)
-    → slice_get file.footer.leaves i ≡ Some leaf → fits kind leaf ≡ false
-    → go (column_of file i kind nullable text_left) (cells kind) ≡ Err fault.Mismatch
+    → fits kind leaf ≡ false
+    → go (column_of file i (record { kind = kind; nullable = nullable; leaf = leaf }) text_left) (cells kind) ≡ Err fault.Mismatch
 unfolding column_of
-mismatch file i kind nullable text_left leaf at bad = rw (at, bad) refl
+mismatch file i kind nullable text_left leaf bad = rw bad refl
 
 column-fails_by : (answer : Answer Reading) (known : Answer Cells) (e : FileFault)
     → Gives {X = Reading} (λ reader. reader) answer (Err e) → known ≡ go answer (λ reading. finished reading.kept) → Gives {X = Cells} (λ column. column) known (Err e)

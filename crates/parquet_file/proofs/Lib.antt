@@ -3,3 +3,4 @@ pub mod ChunksWritten
 pub mod LeavesWritten
 pub mod FilesBack
 pub mod FilesWritten
+pub mod SoundGroups

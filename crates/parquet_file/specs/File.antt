@@ -1,16 +1,16 @@
 -- What the bytes of a Parquet file mean: a footer, and a column for each leaf, or the first fault (the Parquet format,
 -- "File format"; parquet.thrift, FileMetaData).
-use Rattle.std.specs.Prelude.{ℕ, ◌+◌, ◌-◌, ◌||◌, not, nat_lt, unsigned_abs, Bool, codes, if◌then◌else◌, List, [], ◌∷◌, ◌++◌, length, take, drop, slice_get, Option, Some, None, Ok, Err}
+use Rattle.std.specs.Prelude.{ℕ, ◌+◌, ◌-◌, ◌||◌, not, nat_lt, ℤ, pos, negsuc, codes, if◌then◌else◌, List, [], ◌∷◌, ◌++◌, length, take, drop, slice_get, filter_map, Option, Some, None, Ok, Err}
 use Rattle.std.specs.Str.{bytes_eq}
 use Rattle.byteorder.specs.Endian.{little_number}
 use Rattle.dm_types.specs.Then.{go, ◌>>=◌}
-use Rattle.dm_types.specs.declared.value.DataType.{DataType}
 use Rattle.dm_types.specs.declared.value.Value.{Value}
 use Rattle.parquet_meta.specs.Meaning.{footer_in}
+use Rattle.parquet_meta.specs.declared.metadata.ChunkMeta.{ChunkMeta}
 use Rattle.parquet_meta.specs.declared.metadata.Footer.{Footer}
 use Rattle.parquet_meta.specs.declared.metadata.RowGroup.{RowGroup}
 use Rattle.parquet_pages.specs.Chunk.{chunk_values, within}
-use Rattle.parquet_pages.specs.Pages.{Answer, Wanted, or_else}
+use Rattle.parquet_pages.specs.Pages.{Answer, Wanted}
 use Rattle.parquet_pages.specs.Types.{fits}
 use Rattle.parquet_pages.specs.declared.fault.FileFault.TheVariants as fault
 
@@ -41,26 +41,41 @@ opened bytes = do
   footer ← footer_in parts.1
   Some (record { pages = parts.0; footer = footer })
 
--- the values of the i-th leaf in a row group, which has a chunk for each leaf
-abbrev pub group_values : List ℕ → Wanted → ℕ → RowGroup → Answer (List Value)
-group_values pages wanted i group =
-    go (or_else fault.BadParquet (slice_get group.chunks i)) (λ chunk.
-    chunk_values pages chunk wanted (unsigned_abs group.rows))
+-- a count that isn't negative
+abbrev pub counted : ℤ → Option ℕ
+counted (pos n) = Some n
+counted (negsuc n) = None
 
--- its values in row groups, one after the other
-unfoldable pub groups_values : List ℕ → Wanted → ℕ → List RowGroup → Answer (List Value)
-groups_values pages wanted i [] = Ok []
-groups_values pages wanted i (group ∷ groups) =
-    go (group_values pages wanted i group) (λ values.
-    go (groups_values pages wanted i groups) (λ more. Ok (values ++ more)))
+-- a column chunk, and how many rows its row group has
+pub record GroupChunk : Type 0 where
+  pub chunk : ChunkMeta
+  pub rows : ℕ
 
+-- the chunk of the i-th leaf in a row group
+abbrev pub chunk_in : ℕ → RowGroup → Option GroupChunk
+chunk_in i group = do
+  chunk ← slice_get group.chunks i
+  rows ← counted group.rows
+  Some (record { chunk = chunk; rows = rows })
+
+-- the chunks of the i-th leaf, row group after row group. Each row group of a footer that is read has one, and no
+-- negative count of rows, so that none is left out
+abbrev pub chunks_of : ℕ → List RowGroup → List GroupChunk
+chunks_of i groups = filter_map (chunk_in i) groups
+
+-- the values of chunks, one after the other, or the first fault
+unfoldable pub chunks_values : List ℕ → Wanted → List GroupChunk → Answer (List Value)
+chunks_values pages wanted [] = Ok []
+chunks_values pages wanted (first ∷ more) =
+    go (chunk_values pages first.chunk wanted first.rows) (λ values.
+    go (chunks_values pages wanted more) (λ later. Ok (values ++ later)))
+
+-- the values of the i-th leaf, which is the one that is wanted
 abbrev pub leaf_values : Opened → ℕ → Wanted → Answer (List Value)
 leaf_values file i wanted =
     if not (fits wanted.kind wanted.leaf) then Err fault.Mismatch
-    else groups_values file.pages wanted i file.footer.groups
+    else chunks_values file.pages wanted (chunks_of i file.footer.groups)
 
 -- the column of the i-th leaf, or the first fault
-unfoldable pub column_of : Opened → ℕ → DataType → Bool → ℕ → Answer (List Value)
-column_of file i kind nullable text_left =
-    go (or_else fault.Mismatch (slice_get file.footer.leaves i)) (λ leaf.
-    go (leaf_values file i (record { kind = kind; nullable = nullable; leaf = leaf })) (within text_left))
+unfoldable pub column_of : Opened → ℕ → Wanted → ℕ → Answer (List Value)
+column_of file i wanted text_left = go (leaf_values file i wanted) (within text_left)

@@ -1,3 +1,4 @@
 pub mod File
 pub mod Writing
 pub mod Chunks
+pub mod Groups

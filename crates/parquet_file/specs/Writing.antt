@@ -86,4 +86,5 @@ pub record IsFileOf (columns : List FileColumn) (bytes : List ℕ) : Type 0 wher
   pub leaves : file.footer.leaves ≡ map file_leaf columns
   pub column : (i : ℕ) (c : FileColumn) (nullable : Bool) (text_left : ℕ) → slice_get columns i ≡ Some c
       → TakesNulls nullable c.column.values
-      → column_of file i c.kind nullable text_left ≡ within text_left c.column.values
+      → column_of file i (record { kind = c.kind; nullable = nullable; leaf = file_leaf c }) text_left
+      ≡ within text_left c.column.values

@@ -1,12 +1,14 @@
 // A file that is read.
-ghost use Rattle.std.specs.Prelude.{◌≡◌, ◌<◌, length, pos, slice_get, Some, Ok, unsigned_abs};
+ghost use Rattle.std.specs.Prelude.{◌≡◌, ◌<◌, ◌≤ℤ◌, length, pos, slice_get, All, Some, Ok};
 ghost use Rattle.dm_types.specs.Ranges.{IsWellFormed};
 ghost use Rattle.dm_types.specs.Then.{go};
 ghost use Rattle.parquet_pages.specs.Answers.{Gives};
-ghost use Rattle.parquet_file.specs.File.{column_of, groups_values};
+ghost use Rattle.parquet_file.specs.File.{chunks_of, chunks_values, column_of};
+ghost use Rattle.parquet_file.specs.Groups.{HasChunk};
+ghost use Rattle.parquet_meta.specs.declared.metadata.LeafSchema.{LeafSchema as ALeaf};
+ghost use Rattle.parquet_pages.specs.Pages.{Wanted};
 ghost use Rattle.parquet_pages.specs.Kept.{with_more};
 ghost use Rattle.parquet_pages.specs.Views.{wanted};
-ghost use Rattle.std.specs.Option.{option_copied};
 
 use column_vectors::AnyColumn;
 use dm_types::DataType;
@@ -71,7 +73,9 @@ impl<'a> ParquetFile<'a> {
     ) -> Result<AnyColumn, FileFault>
         requires leaf { i < length self.now.footer.leaves }
         requires kind { IsWellFormed kind.now }
-        ensures { Gives (λ column. column) (go (column_of self.now i kind.now nullable text_left)
+        ensures { (leaf : ALeaf) → slice_get self.now.footer.leaves i ≡ Some leaf
+            → let wanted : Wanted = record { kind = kind.now; nullable = nullable; leaf = leaf } in
+            Gives (λ column. column) (go (column_of self.now i wanted text_left)
             (λ values. Ok (record { kind = kind.now; values = values }))) result }
     {
         laws::columns_grow();
@@ -88,23 +92,18 @@ impl<'a> ParquetFile<'a> {
 
 // A count of rows.
 fn count_of(rows: i64) -> u64
-    ensures { result ≡ unsigned_abs rows }
+    requires { pos 0 ≤ℤ rows }
+    ensures { pos result ≡ rows }
 {
-    rows.unsigned_abs()
+    rows as u64
 }
 
 // The chunk of the i-th leaf.
-fn chunk_at(group: &RowGroup, i: usize) -> Option<&ChunkMeta>
-    ensures { option_copied result ≡ slice_get group.now.chunks i }
+fn chunk_at(group: &RowGroup, i: usize) -> &ChunkMeta
+    requires { i < length group.now.chunks }
+    ensures { slice_get group.now.chunks i ≡ Some result.now }
 {
-    group.chunks.as_slice().get(i)
-}
-
-// How many rows a row group has.
-fn rows_in(group: &RowGroup) -> usize
-    ensures { result ≡ unsigned_abs group.now.rows }
-{
-    count_of(group.rows) as usize
+    group.chunks.get(i)
 }
 
 // Adds the values of the i-th leaf in row groups, one after the other.
@@ -116,16 +115,16 @@ fn read_groups(
     i: usize,
     reader: ColumnReader,
 ) -> Result<ColumnReader, FileFault>
-    ensures { Gives (λ reader. reader) (go (groups_values pages.now (wanted reader leaf.now) i groups.now)
+    requires { All (HasChunk i) groups.now }
+    ensures { Gives (λ reader. reader) (go (chunks_values pages.now (wanted reader leaf.now) (chunks_of i groups.now))
         (λ values. Ok (with_more values reader))) result }
 {
     laws::columns_grow();
     let mut reader = reader;
     for group in groups {
-        let Some(chunk) = chunk_at(group, i) else {
-            return Err(FileFault::BadParquet);
-        };
-        reader = reader.add_chunk(alloc, pages, chunk, leaf, rows_in(group))?;
+        let chunk = chunk_at(group, i);
+        let rows = count_of(group.rows) as usize;
+        reader = reader.add_chunk(alloc, pages, chunk, leaf, rows)?;
     }
     Ok(reader)
 }

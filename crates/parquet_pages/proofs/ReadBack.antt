@@ -1,6 +1,6 @@
 -- A chunk that is written is read as its column.
-use Rattle.std.proofs.Common.{◌≡◌, ℕ, zero, suc, ◌+◌, ◌-◌, ◌^◌, ◌<◌, ◌≤◌, ℤ, pos, ◌+ℤ◌, ◌≤ℤ◌, List, [], ◌∷◌, ◌++◌, length, take, drop, Option, Some, None, option_map, Ok, Bool, true, false, cond, eqb, ltb, refl, sym, ap, ◌∙◌, append_assoc, length-append, arith}
-use Rattle.std.specs.Prelude.{int_le, ◌&&◌}
+use Rattle.std.proofs.Common.{◌≡◌, ℕ, zero, suc, ◌+◌, ◌-◌, ◌^◌, ◌<◌, ◌≤◌, ℤ, pos, ◌+ℤ◌, ◌≤ℤ◌, List, [], ◌∷◌, ◌++◌, length, take, drop, Option, Some, None, option_map, Result, Ok, Err, Bool, true, false, cond, eqb, ltb, refl, sym, ap, ◌∙◌, append_assoc, length-append, arith}
+use Rattle.std.specs.Prelude.{int_le, ◌&&◌, IfOk}
 use Rattle.std.specs.Ordering.{int_eq}
 use Rattle.std.proofs.lemmas.Bool.{and_from, eq-eqb, eqb-true, le-leb, le-ltb}
 use Rattle.std.proofs.lemmas.Bool.Decides.{Decides-int_eq}
@@ -24,7 +24,7 @@ use Rattle.parquet_pages.specs.Chunk.{bytes_between, chunk_of, chunk_values}
 use Rattle.parquet_pages.specs.Entries.{full}
 use Rattle.parquet_pages.specs.Pages.{Answer, State, Wanted, begun, column_values, cut_page, data_page, entries_of, or_else, page_at, page_entries, page_values, pages_at, rle_levels, role_of, take_page, told_levels}
 use Rattle.parquet_pages.specs.Stored.{levels_of, stored_values}
-use Rattle.parquet_pages.specs.Storing.{header_of, IsPage}
+use Rattle.parquet_pages.specs.Storing.{AddsChunk, header_of, IsPage}
 use Rattle.parquet_pages.specs.Writing.{IsReadBack, IsWritableColumn, TakesNulls, chunk_meta}
 use Rattle.parquet_pages.specs.declared.fault.FileFault.{FileFault}
 use Rattle.parquet_pages.specs.declared.fault.FileFault.TheVariants as fault
@@ -213,8 +213,10 @@ module _ (column : Cells) (can : IsWritableColumn column) (page : List ℕ) (so 
       some_step fault.BadParquet (chunk_of file (chunk_meta column (length old) (length page)) rows) page (λ bytes. pages_at (length bytes) W (begun rows) bytes) found ∙ pages_back
 
 -- what is written is read as the column
-pub chunk_read : (column : Cells) (old page file start_bytes size_bytes : List ℕ) (meta : ChunkMeta) → IsWritableColumn column → IsPage column page → AreRunsRead → 4 ≤ length old → file ≡ old ++ page → start_bytes ≡ old → size_bytes ≡ page
-    → meta ≡ chunk_meta column (length start_bytes) (length size_bytes) → IsReadBack column file meta
-chunk_read column old page file start_bytes size_bytes meta can so runs start joined first second told = λ more name field_id nullable nulls.
-    let is : meta ≡ chunk_meta column (length old) (length page) = told ∙ ap (λ bs. chunk_meta column (length bs) (length size_bytes)) first ∙ ap (λ bs. chunk_meta column (length old) (length bs)) second in
-    rw (joined, is) (chunk_back column can page so runs nullable name field_id nulls old more start)
+chunk_read : (column : Cells) (old file : List ℕ) (meta : ChunkMeta) → IsWritableColumn column → AddsChunk column old file meta → AreRunsRead → 4 ≤ length old → IsReadBack column file meta
+chunk_read column old file meta can added runs start = λ more name field_id nullable nulls.
+    rw (added.joined, added.told) (chunk_back column can added.page added.is runs nullable name field_id nulls old more start)
+
+pub all_read : {E : Type 0} (column : Cells) (old file : List ℕ) (result : Result ChunkMeta E) → IsWritableColumn column → AreRunsRead → 4 ≤ length old → IfOk result (AddsChunk column old file) → IfOk result (λ meta. IsReadBack column file meta)
+all_read column old file (Ok meta) can runs start added = chunk_read column old file meta can added runs start
+all_read column old file (Err e) can runs start added = tt

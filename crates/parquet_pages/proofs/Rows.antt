@@ -1,6 +1,6 @@
 -- What goes into the lists that are written, row after row.
-use Rattle.std.proofs.Common.{◌≡◌, ℕ, ◌+◌, ◌^◌, ◌<◌, ◌≤◌, ℤ, List, [], ◌∷◌, ◌++◌, take, map, Option, Some, None, Bool, true, false, cond, leb, FitsSigned, unsigned_abs, inl, inr, refl, sym, ap, ◌∙◌, subst, arith}
-use Rattle.std.specs.Prelude.{All, slice_get, IfSome}
+use Rattle.std.proofs.Common.{◌≡◌, ℕ, ◌+◌, ◌^◌, ◌<◌, ◌≤◌, ℤ, List, [], ◌∷◌, ◌++◌, take, map, Option, Some, None, option_map, Bool, true, false, cond, leb, FitsSigned, unsigned_abs, ◌⊎◌, ◌≢◌, inl, inr, refl, sym, ap, ◌∙◌, subst, arith}
+use Rattle.std.specs.Prelude.{All, slice_get}
 use Rattle.std.specs.Int.{w32, w64}
 use Rattle.std.specs.List.{filter}
 use Rattle.std.proofs.lemmas.Int.{ints, fits_signed_from_abs}
@@ -9,16 +9,19 @@ use Rattle.std.proofs.lemmas.List.{map-append, take_more}
 use Rattle.std.proofs.lemmas.List.Elements.{All-get_or, All-push, filter-append}
 use Rattle.std.proofs.lemmas.Option.{slice_get_within, get_or_from_slice_get}
 use Rattle.std.proofs.Math.Nat.{pow-le-pow_right}
+use Rattle.column_vectors.specs.Cells.{Cells}
+use Rattle.dm_types.specs.Lanes.{IsOf}
 use Rattle.dm_types.specs.Ranges.{IsNullOrInRange, IsText}
 use Rattle.dm_types.specs.declared.value.DataType.{DataType}
 use Rattle.dm_types.specs.declared.value.DataType.TheVariants as kind
 use Rattle.dm_types.specs.declared.value.Value.{Value}
 use Rattle.dm_types.specs.declared.value.Value.TheVariants as value
-use Rattle.parquet_pages.specs.Physical.{Physical, whole_number}
+use Rattle.parquet_pages.specs.Physical.{Physical, whole_number, raw}
 use Rattle.parquet_pages.specs.Stored.{decimal_stored, decimal_type, is_full, level_of, levels_of, stored, stored_values, type_of}
-use Rattle.parquet_pages.specs.Storing.{form, form_of, IsOfForm, IsStored, level, listed, told}
-use Rattle.parquet_pages.specs.Views.{physicals}
+use Rattle.parquet_meta.specs.declared.numbers.TheConstants.{BOOLEAN, INT32, INT64, BYTE_ARRAY, FIXED_LEN_BYTE_ARRAY}
+use Rattle.parquet_pages.specs.Storing.{IsStored, IsStoredAt, level, listed, physical_of, told, type_in, values_in}
 use Rattle.parquet_pages.specs.declared.stored.StoredColumn.{StoredColumn}
+use Rattle.parquet_pages.specs.declared.stored.StoredValue.{StoredValue}
 
 -- ---- decimals
 
@@ -45,29 +48,16 @@ decimal_whole_by precision n false false is also few = absurd (omega (arith, leb
 pub decimal_whole : (precision : ℕ) (n : ℤ) → precision ≤ 18 → decimal_stored precision n ≡ whole_number n
 decimal_whole precision n few = decimal_whole_by precision n (leb precision 9) (leb precision 18) refl refl few
 
-decimal_form : (precision : ℕ) (n : ℤ) (b d : Bool) → leb precision 9 ≡ b → leb precision 18 ≡ d → unsigned_abs n < 10 ^ precision → IsOfForm (form (decimal_type precision)) (decimal_stored precision n)
-decimal_form precision n true d is also within = rw is (inl (refl, decimal_32 n precision (leb-true precision 9 is) within))
-decimal_form precision n false true is also within = rw (is, also) (inr (refl, decimal_64 n precision (leb-true precision 18 also) within))
-decimal_form precision n false false is also within = rw (is, also) refl
+decimal_goes_by : (precision : ℕ) (n : ℤ) (b d : Bool) → leb precision 9 ≡ b → leb precision 18 ≡ d → precision ≤ 18 → unsigned_abs n < 10 ^ precision
+    → ((decimal_type precision ≡ INT32) × FitsSigned w32 n) ⊎ ((decimal_type precision ≡ INT64) × FitsSigned w64 n)
+decimal_goes_by precision n true d is also few within = inl (rw is refl, decimal_32 n precision (leb-true precision 9 is) within)
+decimal_goes_by precision n false true is also few within = inr (rw (is, also) refl, decimal_64 n precision few within)
+decimal_goes_by precision n false false is also few within = absurd (omega (arith, leb-false precision 18 also))
 
--- ---- a value goes into the list for its type
-
-pub of_form : (k : DataType) (v : Value) → IsNullOrInRange k v → IfSome (told k v) (IsOfForm (form (type_of k)))
-of_form k value.Null h = tt
-of_form kind.Boolean (value.Bool b) h = refl
-of_form kind.Byte (value.Int n) h = inl (refl, let fits = h.1 in omega (arith, ints))
-of_form kind.Short (value.Int n) h = inl (refl, let fits = h.1 in omega (arith, ints))
-of_form kind.Integer (value.Int n) h = inl (refl, h.1)
-of_form kind.Long (value.Int n) h = inr (refl, h.1)
-of_form kind.Date (value.Day n) h = inl (refl, h.1)
-of_form kind.Timestamp (value.Micros n) h = inr (refl, h.1)
-of_form kind.Str (value.Text t) h = refl
-of_form kind.Binary (value.Bytes b) h = refl
-of_form (kind.Decimal precision scale) (value.Dec d) h = decimal_form precision d.unscaled (leb precision 9) (leb precision 18) refl refl h.2
-of_form k v h = absurd h.1
-
-pub row_form : (k : DataType) (v : Value) (found : Option Physical) (f : ℕ) → IsNullOrInRange k v → found ≡ told k v → f ≡ form (type_of k) → IfSome found (IsOfForm f)
-row_form k v found f range is same = rw (is, same) (of_form k v range)
+-- a decimal that is a number goes into the list of its type
+pub decimal_goes : (precision : ℕ) (n : ℤ) → precision ≤ 18 → unsigned_abs n < 10 ^ precision
+    → ((decimal_type precision ≡ INT32) × FitsSigned w32 n) ⊎ ((decimal_type precision ≡ INT64) × FitsSigned w64 n)
+decimal_goes precision n few within = decimal_goes_by precision n (leb precision 9) (leb precision 18) refl refl few within
 
 -- ---- a row more
 
@@ -89,21 +79,18 @@ values_more k rows v =
     ∙ ap (λ p. stored_values k rows ++ p) (sym (listed_cond k v (is_full v)))
 
 stored_push : (k : DataType) (rows : List Value) (v : Value) (found : Option Physical) (old new : StoredColumn) → IsStored k rows old → found ≡ told k v → IsText v
-    → new.levels ≡ old.levels ++ level found ∷ [] → physicals new.values ≡ physicals old.values ++ listed found → form_of new.values ≡ form_of old.values → IsStored k (rows ++ v ∷ []) new
+    → new.levels ≡ old.levels ++ level found ∷ [] → values_in new.values ≡ values_in old.values ++ listed found → type_in new.values ≡ type_in old.values → IsStored k (rows ++ v ∷ []) new
 stored_push k rows v found old new so is text levels values kept = record {
   levels = levels ∙ ap (λ l. old.levels ++ level l ∷ []) is ∙ ap (λ ls. ls ++ level (told k v) ∷ []) so.levels ∙ sym (levels_more k rows v);
-  values = values ∙ ap (λ p. physicals old.values ++ listed p) is ∙ ap (λ ps. ps ++ listed (told k v)) so.values ∙ sym (values_more k rows v);
+  values = values ∙ ap (λ p. values_in old.values ++ listed p) is ∙ ap (λ ps. ps ++ listed (told k v)) so.values ∙ sym (values_more k rows v);
   kept = kept ∙ so.kept;
   texts = All-push IsText rows v so.texts text;
 }
 
-pub stored_more : (k : DataType) (values : List Value) (row : ℕ) (v : Value) (found : Option Physical) (old new : StoredColumn) → slice_get values row ≡ Some v → IsStored k (take row values) old → found ≡ told k v → IsText v
-    → new.levels ≡ old.levels ++ level found ∷ [] → physicals new.values ≡ physicals old.values ++ listed found → form_of new.values ≡ form_of old.values → IsStored k (take (row + 1) values) new
-stored_more k values row v found old new at so is text levels kept same =
-    let within = slice_get_within values row v at in
-    let grown : take (row + 1) values ≡ take row values ++ v ∷ [] = take_more values row v within ∙ ap (λ x. take row values ++ x ∷ []) (get_or_from_slice_get values row v v at) in
-    subst (λ rows. IsStored k rows new) (sym grown) (stored_push k (take row values) v found old new so is text levels kept same)
-
-pub range_at : (k : DataType) (values : List Value) (row : ℕ) (v : Value) → slice_get values row ≡ Some v → All (IsNullOrInRange k) values → IsNullOrInRange k v
-range_at k values row v at all =
-    subst (IsNullOrInRange k) (get_or_from_slice_get values row v v at) (All-get_or (IsNullOrInRange k) values row v (slice_get_within values row v at) all)
+pub stored_more : (column : Cells) (row : ℕ) (found : Option StoredValue) (old new : StoredColumn) → IsStored column.kind (take row column.values) old → IsStoredAt column row found
+    → new.levels ≡ old.levels ++ level (option_map physical_of found) ∷ [] → values_in new.values ≡ values_in old.values ++ listed (option_map physical_of found) → type_in new.values ≡ type_in old.values
+    → IsStored column.kind (take (row + 1) column.values) new
+stored_more column row found old new so here levels kept same =
+    let within = slice_get_within column.values row here.v here.at in
+    let grown : take (row + 1) column.values ≡ take row column.values ++ here.v ∷ [] = take_more column.values row here.v within ∙ ap (λ x. take row column.values ++ x ∷ []) (get_or_from_slice_get column.values row here.v here.v here.at) in
+    subst (λ rows. IsStored column.kind rows new) (sym grown) (stored_push column.kind (take row column.values) here.v (option_map physical_of found) old new so here.is here.text levels kept same)

@@ -1,5 +1,5 @@
 -- The values of a column can be written, and their page is not too long for its header.
-use Rattle.std.proofs.Common.{◌≡◌, ℕ, zero, suc, ◌+◌, ◌*◌, ◌^◌, ◌<◌, ◌≤◌, ℤ, List, [], ◌∷◌, length, map, Result, Ok, Err, Some, Bool, true, false, cond, eqb, refl, sym, ap, ◌∙◌, subst, arith}
+use Rattle.std.proofs.Common.{◌≡◌, ℕ, zero, suc, ◌+◌, ◌-◌, ◌*◌, ◌^◌, ◌<◌, ◌≤◌, ℤ, List, [], ◌∷◌, ◌++◌, length, map, Result, Ok, Err, Some, Bool, true, false, cond, eqb, refl, sym, ap, ◌∙◌, subst, append_assoc, length-append, arith}
 use Rattle.std.specs.Prelude.{All, IfOk}
 use Rattle.std.specs.Int.{w128}
 use Rattle.std.specs.List.{filter, range_with_len, sum_by, AllByRecursion}
@@ -16,19 +16,15 @@ use Rattle.dm_types.specs.declared.value.DataType.TheVariants as kind
 use Rattle.dm_types.specs.declared.value.Value.{Value}
 use Rattle.dm_types.specs.declared.value.Value.TheVariants as value
 use Rattle.level_runs.specs.Answers.{AppendsRuns}
-use Rattle.level_runs.specs.Runs.{MeansRuns}
+use Rattle.parquet_meta.specs.declared.metadata.ChunkMeta.{ChunkMeta}
 use Rattle.parquet_pages.specs.Kept.{text_bytes, text_size}
 use Rattle.parquet_pages.specs.Physical.{Physical, whole_number, raw, plain, plain_bytes}
 use Rattle.parquet_meta.specs.declared.numbers.TheConstants.{FIXED_LEN_BYTE_ARRAY}
 use Rattle.parquet_pages.specs.Stored.{decimal_size, decimal_type, first_that, has_room, is_full, length_of, level_of, levels_of, stored, stored_values, type_of}
-use Rattle.parquet_pages.specs.Storing.{AppendsPlain, CanStand, header_of, IsHeaderRead, IsPage, IsStored, raw_size}
-use Rattle.parquet_pages.specs.Views.{physicals}
-use Rattle.parquet_pages.specs.Writing.{IsWritableColumn, page_bytes}
+use Rattle.parquet_pages.specs.Storing.{AddsChunk, AddsPage, AppendsPlain, CanStand, header_of, IsHeaderRead, IsStored, raw_size, type_in, values_in}
+use Rattle.parquet_pages.specs.Writing.{IsWritableColumn, WritesChunk, chunk_meta, page_bytes, page_front, page_header}
+use Rattle.parquet_pages.proofs.Spelled.{plain_short}
 use Rattle.parquet_pages.specs.declared.stored.StoredColumn.{StoredColumn}
-
-pub if_ok_both : {A E : Type 0} (r : Result A E) {P Q R : A → Type 0} → ((x : A) → P x → Q x → R x) → IfOk r P → IfOk r Q → IfOk r R
-if_ok_both (Ok x) f p q = f x p q
-if_ok_both (Err e) f p q = tt
 
 -- ---- a value
 
@@ -135,45 +131,62 @@ levels_by (v ∷ vs) = (level_fits (is_full v), levels_by vs)
 pub levels_fit : (k : DataType) (values : List Value) (it : StoredColumn) → IsStored k values it → All (λ n. n < 2 ^ 1) it.levels
 levels_fit k values it so = subst (All (λ n. n < 2 ^ 1)) (sym so.levels) (All-from_recursion (λ n. n < 2 ^ 1) (levels_of values) (levels_by values))
 
-pub values_stand : (column : Cells) (k : DataType) (it : StoredColumn) → IsWritableColumn column → IsStored column.kind column.values it → k ≡ column.kind → All (CanStand (type_of k) (length_of k)) (physicals it.values)
-values_stand column k it can so same = rw (same, so.values) (
+pub values_stand : (column : Cells) (it : StoredColumn) → IsWritableColumn column → IsStored column.kind column.values it → All (CanStand (type_in it.values) (length_of column.kind)) (values_in it.values)
+values_stand column it can so = rw (so.kept, so.values) (
     All-from_recursion (CanStand (type_of column.kind) (length_of column.kind)) (stored_values column.kind column.values) (
     all_stand column.kind column.values 536_870_912 (recursion_from_All (IsNullOrInRange column.kind) column.values can.values) can.text (omega arith)
     )
     )
 
-pub page_short : (column : Cells) (k : DataType) (it : StoredColumn) (levels values : List ℕ) → IsWritableColumn column → IsStored column.kind column.values it → AppendsRuns 1 it.levels [] levels
-    → AppendsPlain (type_of k) (length_of k) (physicals it.values) [] values → 4 + length levels + length values < 2 ^ 31
-page_short column k it levels values can so runs plain =
-    let all = recursion_from_All (IsNullOrInRange column.kind) column.values can.values in
-    let sums = sum_short column.kind column.values all in
+-- 8 bytes a value beside its own
+values_short : (column : Cells) (it : StoredColumn) → IsWritableColumn column → IsStored column.kind column.values it → 8 * length (values_in it.values) + sum_by raw_size (values_in it.values) < 2 ^ 30
+values_short column it can so =
+    let sums = sum_short column.kind column.values (recursion_from_All (IsNullOrInRange column.kind) column.values can.values) in
     let counts = count_short column.kind column.values in
-    let rows : length it.levels ≡ length column.values = ap length so.levels ∙ length-map column.values level_of in
-    let first : length levels ≡ length runs.written = ap length runs.joined in
-    let second : length values ≡ length plain.written = ap length plain.joined in
-    let count : length (physicals it.values) ≡ length (stored_values column.kind column.values) = ap length so.values in
-    let sum : sum_by raw_size (physicals it.values) ≡ sum_by raw_size (stored_values column.kind column.values) = ap (sum_by raw_size) so.values in
+    let count : length (values_in it.values) ≡ length (stored_values column.kind column.values) = ap length so.values in
+    let sum : sum_by raw_size (values_in it.values) ≡ sum_by raw_size (stored_values column.kind column.values) = ap (sum_by raw_size) so.values in
     let few = can.rows in
     let text = can.text in
-    let a = runs.size in
-    let b = plain.short in
-    omega (arith, sums, counts, rows, first, second, count, sum, few, text, a, b)
+    omega (arith, sums, counts, count, sum, few, text)
 
-pub page_made : (column : Cells) (k : DataType) (rows : ℕ) (it : StoredColumn) (levels values page : List ℕ) → IsWritableColumn column → IsStored column.kind column.values it → k ≡ column.kind → rows ≡ length column.values → AppendsRuns 1 it.levels [] levels
-    → AppendsPlain (type_of k) (length_of k) (physicals it.values) [] values → page ≡ page_bytes rows levels values → IsHeaderRead (header_of rows levels values) → IsPage column page
-page_made column k rows it levels values page can so same count runs plain' joined header =
+pub values_few : (column : Cells) (it : StoredColumn) → IsWritableColumn column → IsStored column.kind column.values it → 8 * length (values_in it.values) + sum_by raw_size (values_in it.values) < 2 ^ 63
+values_few column it can so = let short = values_short column it can so in omega (arith, short)
+
+pub page_short : (column : Cells) (it : StoredColumn) (levels : List ℕ) (size : ℕ) → IsWritableColumn column → IsStored column.kind column.values it → AppendsRuns 1 it.levels [] levels
+    → size ≡ length (plain_bytes (type_in it.values) (values_in it.values)) → 4 + length levels + size < 2 ^ 31
+page_short column it levels size can so runs is =
+    let short = values_short column it can so in
+    let most = plain_short (type_in it.values) (values_in it.values) in
+    let rows : length it.levels ≡ length column.values = ap length so.levels ∙ length-map column.values level_of in
+    let first : length levels ≡ length runs.written = ap length runs.joined in
+    let few = can.rows in
+    let a = runs.size in
+    omega (arith, short, most, rows, first, few, a, is)
+
+-- ---- what went to the end
+
+pub page_made : (column : Cells) (rows : ℕ) (it : StoredColumn) (levels : List ℕ) (size : ℕ) (old begun new : List ℕ) → IsWritableColumn column → IsStored column.kind column.values it → rows ≡ length column.values → AppendsRuns 1 it.levels [] levels
+    → size ≡ length (plain_bytes (type_in it.values) (values_in it.values)) → begun ≡ old ++ page_front rows levels size → IsHeaderRead (page_header rows (4 + length levels + size))
+    → AppendsPlain (type_in it.values) (length_of column.kind) (values_in it.values) begun new → AddsPage column old new
+page_made column rows it levels size old begun new can so count runs is front header plain' =
     let entries : length it.levels ≡ length column.values = ap length so.levels ∙ length-map column.values level_of in
-    let A : List ℕ → ℕ → List ℕ → Type 0 = λ bytes n numbers. MeansRuns 1 n bytes numbers in
     let known = stored_values column.kind column.values in
-    let again : plain (type_of k) (length_of k) (length (physicals it.values)) values ≡ Some (physicals it.values) = ap (plain (type_of k) (length_of k) (length (physicals it.values))) plain'.joined ∙ plain'.again in
+    let written = plain'.written in
+    let long : size ≡ length written = is ∙ ap length (sym plain'.spelled) in
+    let same : page_front rows levels size ++ written ≡ page_bytes (length column.values) levels written =
+        ap (λ n. page_front n levels size ++ written) count ∙ ap (λ n. page_front (length column.values) levels n ++ written) long in
     record {
-      levels = levels;
-      values = values;
-      runs = rw (runs.joined, sym entries, sym so.levels) runs.means;
-      plain = subst (λ t. plain (type_of t) (length_of t) (length known) values ≡ Some known) same (subst (λ ps. plain (type_of k) (length_of k) (length ps) values ≡ Some ps) so.values again);
-      spelled = plain'.joined ∙ plain'.spelled ∙ ap (plain_bytes (type_of k)) so.values ∙ ap (λ t. plain_bytes (type_of t) known) same;
-      joined = joined ∙ ap (λ n. page_bytes n levels values) count;
-      header = subst (λ n. IsHeaderRead (header_of n levels values)) count header;
-      size = page_short column k it levels values can so runs plain';
-      texts = so.texts;
+      page = page_bytes (length column.values) levels written;
+      joined = plain'.joined ∙ ap (λ bs. bs ++ written) front ∙ append_assoc old (page_front rows levels size) written ∙ ap (λ bs. old ++ bs) same;
+      is = record {
+        levels = levels;
+        values = written;
+        runs = rw (runs.joined, sym entries, sym so.levels) runs.means;
+        plain = subst (λ t. plain t (length_of column.kind) (length known) written ≡ Some known) so.kept (subst (λ ps. plain (type_in it.values) (length_of column.kind) (length ps) written ≡ Some ps) so.values plain'.again);
+        spelled = plain'.spelled ∙ ap (plain_bytes (type_in it.values)) so.values ∙ ap (λ t. plain_bytes t known) so.kept;
+        joined = refl;
+        header = subst (λ n. IsHeaderRead (header_of n levels written)) count (subst (λ n. IsHeaderRead (page_header rows (4 + length levels + n))) long header);
+        size = let short = page_short column it levels size can so runs is in omega (arith, short, long);
+        texts = so.texts;
+      };
     }

@@ -30,7 +30,6 @@ abbrev pub physicals : PlainList → List Physical
 physicals (plain.Flags flags) = map flag flags
 physicals (plain.Whole32 numbers) = map whole_number numbers
 physicals (plain.Whole64 numbers) = map whole_number numbers
-physicals (plain.Raw values) = map raw values
 
 -- the values of a page
 abbrev pub page_values : PageValues → List Physical

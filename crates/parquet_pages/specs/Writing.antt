@@ -36,11 +36,15 @@ page_header rows size = record {
   page_v2 = None;
 }
 
--- a page: its header, the levels behind their length in four bytes, and the values
+-- what stands before the values of a page: its header, and the levels behind their length in four bytes
+abbrev pub page_front : ℕ → List ℕ → ℕ → List ℕ
+page_front rows levels size =
+    struct_bytes (header_fields (page_header rows (4 + length levels + size)))
+    ++ little_bytes 4 (length levels) ++ levels
+
+-- a page, with its values
 abbrev pub page_bytes : ℕ → List ℕ → List ℕ → List ℕ
-page_bytes rows levels values =
-    struct_bytes (header_fields (page_header rows (4 + length levels + length values)))
-    ++ little_bytes 4 (length levels) ++ levels ++ values
+page_bytes rows levels values = page_front rows levels (length values) ++ values
 
 -- the chunk of a page: one for the whole column, uncompressed, in the encodings PLAIN and RLE
 abbrev pub chunk_meta : Cells → ℕ → ℕ → ChunkMeta

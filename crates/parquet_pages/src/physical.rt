@@ -5,7 +5,7 @@ ghost use Rattle.parquet_pages.specs.Pages.{plain_values};
 ghost use Rattle.parquet_pages.specs.Views.{page_values, physicals, seen};
 
 use crate::fault::FileFault;
-use dm_types::{Bytes, Flags, Items, WholeList};
+use dm_types::{Flags, Items, WholeList};
 use parquet_meta::LeafSchema;
 use parquet_meta::numbers::{BOOLEAN, BYTE_ARRAY, FIXED_LEN_BYTE_ARRAY, INT32, INT64, INT96};
 use plain_values::{
@@ -27,13 +27,12 @@ pub(crate) enum PlainValue<'a> {
     Raw(&'a [u8]),
 }
 
-/// Values of one physical type.
+/// Truth values or numbers that were read, of one physical type.
 #[derive(Drop)]
 pub(crate) enum PlainList {
     Flags(Flags),
     Whole32(Items<i32>),
     Whole64(WholeList),
-    Raw(Items<Bytes>),
 }
 
 impl PlainList {
@@ -45,7 +44,6 @@ impl PlainList {
             PlainList::Flags(flags) => flags.len(),
             PlainList::Whole32(numbers) => numbers.len(),
             PlainList::Whole64(numbers) => numbers.len(),
-            PlainList::Raw(values) => values.len(),
         }
     }
 
@@ -65,10 +63,6 @@ impl PlainList {
             PlainList::Whole64(numbers) => {
                 let number = numbers.as_slice().get(at)?;
                 Some(PlainValue::Whole(*number))
-            }
-            PlainList::Raw(values) => {
-                let value = values.as_slice().get(at)?;
-                Some(PlainValue::Raw(value.as_slice()))
             }
         }
     }

@@ -1,12 +1,13 @@
 // Writing a column as a chunk.
-ghost use Rattle.std.specs.Prelude.{◌≡◌, ◌+◌, ◌<◌, ◌≤◌, ◌^◌, length, IfOk, OnErr};
+ghost use Rattle.std.specs.Prelude.{◌≡◌, ◌++◌, ◌+◌, ◌<◌, ◌≤◌, ◌^◌, length, IfOk, OnOk, OnErr};
 ghost use Rattle.dm_types.specs.Ranges.{IsWellFormed};
 ghost use Rattle.parquet_pages.specs.Stored.{leaf_of};
-ghost use Rattle.parquet_pages.specs.Storing.{header_of, IsHeaderRead, IsPage};
-ghost use Rattle.parquet_pages.specs.Writing.{IsReadBack, IsWritableColumn, WritesChunk, chunk_meta, page_bytes};
+ghost use Rattle.parquet_pages.specs.Storing.{AddsChunk, AddsPage, IsHeaderRead};
+ghost use Rattle.plain_values.specs.Answers.{BeginsWith};
+ghost use Rattle.parquet_pages.specs.Writing.{IsReadBack, IsWritableColumn, WritesChunk, chunk_meta, page_front, page_header};
 
 use crate::leaf::{annotation_of, length_of, type_of};
-use crate::lists::write_values;
+use crate::lists::{size_of, write_values};
 use crate::stored::stored_column;
 use byteorder::{ByteOrder, LittleEndian};
 use column_vectors::AnyColumn;
@@ -34,15 +35,22 @@ pub fn leaf_for(name: SharedBytes, field_id: Option<i32>, kind: &DataType) -> Le
     }
 }
 
-/// A data page V1: its header, its levels behind their length in four bytes, and its values
-/// (parquet.thrift, `PageHeader`, `DataPageHeader`).
-fn page_of(alloc: Global, rows: usize, levels: &Bytes, values: &Bytes) -> Result<Bytes, AllocError>
+/// Adds what stands before the values of a data page V1: its header, and its levels behind their
+/// length in four bytes (parquet.thrift, `PageHeader`, `DataPageHeader`). The values have `size` bytes.
+fn begin_page(
+    alloc: Global,
+    rows: usize,
+    levels: &Bytes,
+    size: usize,
+    out: &mut Bytes,
+) -> Result<(), AllocError>
     requires rows { rows < 2 ^ 31 }
-    requires size { 4 + length levels.now + length values.now < 2 ^ 31 }
-    ensures bytes { IfOk result (λ page. page ≡ page_bytes rows levels.now values.now) }
-    ensures header { IfOk result (λ page. IsHeaderRead (header_of rows levels.now values.now)) }
+    requires size { 4 + length levels.now + size < 2 ^ 31 }
+    ensures begun { OnOk result (out.new ≡ out.old ++ page_front rows levels.now size) }
+    ensures header { OnOk result (IsHeaderRead (page_header rows (4 + length levels.now + size))) }
+    ensures err { OnErr result (BeginsWith out.old out.new) }
 {
-    let size = (4 + levels.len() + values.len()) as i32;
+    let size = (4 + levels.len() + size) as i32;
     let header = PageHeader {
         kind: DATA_PAGE,
         unpacked: size,
@@ -56,27 +64,25 @@ fn page_of(alloc: Global, rows: usize, levels: &Bytes, values: &Bytes) -> Result
         dictionary: None,
         page_v2: None,
     };
-    let mut page = Bytes::new(alloc);
-    write_page_header(alloc, &header, &mut page)?;
+    write_page_header(alloc, &header, out)?;
     let mut head = [0u8; 4];
     LittleEndian::write_u32(&mut head, levels.len() as u32);
-    page.extend_from_slice(&head)?;
-    page.extend_from_slice(levels.as_slice())?;
-    page.extend_from_slice(values.as_slice())?;
-    Ok(page)
+    out.extend_from_slice(&head)?;
+    out.extend_from_slice(levels.as_slice())
 }
 
-/// The page of a column.
-fn column_page(alloc: Global, column: &AnyColumn) -> Result<Bytes, AllocError>
+/// Adds the page of a column. After want of memory a front of it may stand behind `out`.
+fn add_page(alloc: Global, column: &AnyColumn, out: &mut Bytes) -> Result<(), AllocError>
     requires { IsWritableColumn column.now }
-    ensures { IfOk result (λ page. IsPage column.now page) }
+    ensures page { OnOk result (AddsPage column.now out.old out.new) }
+    ensures err { OnErr result (BeginsWith out.old out.new) }
 {
     let stored = stored_column(alloc, column)?;
     let mut levels = Bytes::new(alloc);
     write_runs(alloc, &stored.levels, 1, &mut levels)?;
-    let mut values = Bytes::new(alloc);
-    write_values(alloc, column.kind(), &stored.values, &mut values)?;
-    page_of(alloc, column.len(), &levels, &values)
+    let size = size_of(&stored.values);
+    begin_page(alloc, column.len(), &levels, size, out)?;
+    write_values(alloc, &stored.values, out)
 }
 
 /// What a footer tells of a column's chunk of one page (parquet.thrift, `ColumnMetaData`).
@@ -105,6 +111,21 @@ fn meta_of(
     })
 }
 
+/// Adds the chunk of a column. After want of memory a front of it may stand behind `out`.
+fn add_chunk(
+    alloc: Global,
+    column: &AnyColumn,
+    out: &mut Bytes,
+) -> Result<ChunkMeta, AllocError>
+    requires { IsWritableColumn column.now }
+    ensures chunk { IfOk result (AddsChunk column.now out.old out.new) }
+    ensures err { OnErr result (BeginsWith out.old out.new) }
+{
+    let start = out.as_slice().len();
+    add_page(alloc, column, out)?;
+    meta_of(alloc, column, start, out.as_slice().len() - start)
+}
+
 /// Adds a column as one chunk of one data page V1 in the encoding PLAIN, with its levels in RLE,
 /// uncompressed, and gives what a footer tells of it; its path is empty. The column is of a type of
 /// tables, with its values in their range, at most 20,000,000 rows and 536,870,912 bytes of text.
@@ -122,8 +143,10 @@ pub fn write_chunk(
     ensures memory { OnErr result (out.new ≡ out.old) }
 {
     laws::runs_again();
-    let page = column_page(alloc, column)?;
-    let chunk = meta_of(alloc, column, out.as_slice().len(), page.as_slice().len())?;
-    out.extend_from_slice(page.as_slice())?;
-    Ok(chunk)
+    let start = out.len();
+    let chunk = add_chunk(alloc, column, out);
+    if chunk.is_err() {
+        out.truncate(start);
+    }
+    chunk
 }
