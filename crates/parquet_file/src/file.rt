@@ -106,6 +106,14 @@ fn chunk_at(group: &RowGroup, i: usize) -> &ChunkMeta
     group.chunks.get(i)
 }
 
+// How many rows a row group has.
+fn rows_in(group: &RowGroup) -> usize
+    requires { pos 0 ≤ℤ group.now.rows }
+    ensures { pos result ≡ group.now.rows }
+{
+    count_of(group.rows) as usize
+}
+
 // Adds the values of the i-th leaf in row groups, one after the other.
 fn read_groups(
     alloc: Global,
@@ -123,8 +131,7 @@ fn read_groups(
     let mut reader = reader;
     for group in groups {
         let chunk = chunk_at(group, i);
-        let rows = count_of(group.rows) as usize;
-        reader = reader.add_chunk(alloc, pages, chunk, leaf, rows)?;
+        reader = reader.add_chunk(alloc, pages, chunk, leaf, rows_in(group))?;
     }
     Ok(reader)
 }

@@ -1,24 +1,20 @@
 -- What goes into the lists that are written, row after row.
-use Rattle.std.proofs.Common.{◌≡◌, ℕ, ◌+◌, ◌^◌, ◌<◌, ◌≤◌, ℤ, List, [], ◌∷◌, ◌++◌, take, map, Option, Some, None, option_map, Bool, true, false, cond, leb, FitsSigned, unsigned_abs, ◌⊎◌, ◌≢◌, inl, inr, refl, sym, ap, ◌∙◌, subst, arith}
-use Rattle.std.specs.Prelude.{All, slice_get}
+use Rattle.std.proofs.Common.{◌≡◌, ℕ, ◌+◌, ◌^◌, ◌<◌, ◌≤◌, ℤ, List, [], ◌∷◌, ◌++◌, take, map, Option, Some, None, option_map, Bool, true, false, cond, leb, FitsSigned, unsigned_abs, ◌⊎◌, inl, inr, refl, sym, ap, ◌∙◌, subst, arith}
 use Rattle.std.specs.Int.{w32, w64}
 use Rattle.std.specs.List.{filter}
-use Rattle.std.proofs.lemmas.Int.{ints, fits_signed_from_abs}
+use Rattle.std.proofs.lemmas.Int.{fits_signed_from_abs}
 use Rattle.std.proofs.lemmas.Bool.{leb-true, leb-false}
 use Rattle.std.proofs.lemmas.List.{map-append, take_more}
-use Rattle.std.proofs.lemmas.List.Elements.{All-get_or, All-push, filter-append}
+use Rattle.std.proofs.lemmas.List.Elements.{All-push, filter-append}
 use Rattle.std.proofs.lemmas.Option.{slice_get_within, get_or_from_slice_get}
 use Rattle.std.proofs.Math.Nat.{pow-le-pow_right}
 use Rattle.column_vectors.specs.Cells.{Cells}
-use Rattle.dm_types.specs.Lanes.{IsOf}
-use Rattle.dm_types.specs.Ranges.{IsNullOrInRange, IsText}
+use Rattle.dm_types.specs.Ranges.{IsText}
 use Rattle.dm_types.specs.declared.value.DataType.{DataType}
-use Rattle.dm_types.specs.declared.value.DataType.TheVariants as kind
 use Rattle.dm_types.specs.declared.value.Value.{Value}
-use Rattle.dm_types.specs.declared.value.Value.TheVariants as value
-use Rattle.parquet_pages.specs.Physical.{Physical, whole_number, raw}
-use Rattle.parquet_pages.specs.Stored.{decimal_stored, decimal_type, is_full, level_of, levels_of, stored, stored_values, type_of}
-use Rattle.parquet_meta.specs.declared.numbers.TheConstants.{BOOLEAN, INT32, INT64, BYTE_ARRAY, FIXED_LEN_BYTE_ARRAY}
+use Rattle.parquet_pages.specs.Physical.{Physical, whole_number}
+use Rattle.parquet_pages.specs.Stored.{decimal_stored, decimal_type, is_full, level_of, levels_of, stored, stored_values}
+use Rattle.parquet_meta.specs.declared.numbers.TheConstants.{INT32, INT64}
 use Rattle.parquet_pages.specs.Storing.{IsStored, IsStoredAt, level, listed, physical_of, told, type_in, values_in}
 use Rattle.parquet_pages.specs.declared.stored.StoredColumn.{StoredColumn}
 use Rattle.parquet_pages.specs.declared.stored.StoredValue.{StoredValue}

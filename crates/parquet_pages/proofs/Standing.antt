@@ -1,6 +1,6 @@
 -- The values of a column can be written, and their page is not too long for its header.
-use Rattle.std.proofs.Common.{◌≡◌, ℕ, zero, suc, ◌+◌, ◌-◌, ◌*◌, ◌^◌, ◌<◌, ◌≤◌, ℤ, List, [], ◌∷◌, ◌++◌, length, map, Result, Ok, Err, Some, Bool, true, false, cond, eqb, refl, sym, ap, ◌∙◌, subst, append_assoc, length-append, arith}
-use Rattle.std.specs.Prelude.{All, IfOk}
+use Rattle.std.proofs.Common.{◌≡◌, ℕ, zero, suc, ◌+◌, ◌*◌, ◌^◌, ◌<◌, ◌≤◌, ℤ, List, [], ◌∷◌, ◌++◌, length, map, Some, Bool, true, false, cond, eqb, refl, sym, ap, ◌∙◌, subst, append_assoc, arith}
+use Rattle.std.specs.Prelude.{All}
 use Rattle.std.specs.Int.{w128}
 use Rattle.std.specs.List.{filter, range_with_len, sum_by, AllByRecursion}
 use Rattle.std.proofs.lemmas.Bool.{eqb-true}
@@ -16,13 +16,12 @@ use Rattle.dm_types.specs.declared.value.DataType.TheVariants as kind
 use Rattle.dm_types.specs.declared.value.Value.{Value}
 use Rattle.dm_types.specs.declared.value.Value.TheVariants as value
 use Rattle.level_runs.specs.Answers.{AppendsRuns}
-use Rattle.parquet_meta.specs.declared.metadata.ChunkMeta.{ChunkMeta}
 use Rattle.parquet_pages.specs.Kept.{text_bytes, text_size}
 use Rattle.parquet_pages.specs.Physical.{Physical, whole_number, raw, plain, plain_bytes}
 use Rattle.parquet_meta.specs.declared.numbers.TheConstants.{FIXED_LEN_BYTE_ARRAY}
 use Rattle.parquet_pages.specs.Stored.{decimal_size, decimal_type, first_that, has_room, is_full, length_of, level_of, levels_of, stored, stored_values, type_of}
-use Rattle.parquet_pages.specs.Storing.{AddsChunk, AddsPage, AppendsPlain, CanStand, header_of, IsHeaderRead, IsStored, raw_size, type_in, values_in}
-use Rattle.parquet_pages.specs.Writing.{IsWritableColumn, WritesChunk, chunk_meta, page_bytes, page_front, page_header}
+use Rattle.parquet_pages.specs.Storing.{AddsPage, AppendsPlain, CanStand, header_of, IsHeaderRead, IsStored, raw_size, type_in, values_in}
+use Rattle.parquet_pages.specs.Writing.{IsWritableColumn, page_bytes, page_front, page_header}
 use Rattle.parquet_pages.proofs.Spelled.{plain_short}
 use Rattle.parquet_pages.specs.declared.stored.StoredColumn.{StoredColumn}
 
@@ -174,7 +173,7 @@ page_made column rows it levels size old begun new can so count runs is front he
     let written = plain'.written in
     let long : size ≡ length written = is ∙ ap length (sym plain'.spelled) in
     let same : page_front rows levels size ++ written ≡ page_bytes (length column.values) levels written =
-        ap (λ n. page_front n levels size ++ written) count ∙ ap (λ n. page_front (length column.values) levels n ++ written) long in
+    ap (λ n. page_front n levels size ++ written) count ∙ ap (λ n. page_front (length column.values) levels n ++ written) long in
     record {
       page = page_bytes (length column.values) levels written;
       joined = plain'.joined ∙ ap (λ bs. bs ++ written) front ∙ append_assoc old (page_front rows levels size) written ∙ ap (λ bs. old ++ bs) same;

@@ -1,5 +1,5 @@
 -- How the values of a column go into the lists that are written.
-use Rattle.std.specs.Prelude.{◌≡◌, ⊤, ℕ, ◌+◌, ◌*◌, ◌^◌, ◌<◌, ◌≤◌, if◌then◌else◌, List, [], ◌∷◌, ◌++◌, length, map, slice_get, All, FitsSigned, ◌⊎◌, Option, Some, None, option_map, IfSome}
+use Rattle.std.specs.Prelude.{◌≡◌, ⊤, ℕ, ◌+◌, ◌^◌, ◌<◌, if◌then◌else◌, List, [], ◌∷◌, ◌++◌, length, map, slice_get, All, FitsSigned, ◌⊎◌, Option, Some, None, option_map, IfSome}
 use Rattle.std.specs.Int.{w32, w64}
 use Rattle.column_vectors.specs.Cells.{Cells}
 use Rattle.dm_types.specs.Ranges.{IsText}

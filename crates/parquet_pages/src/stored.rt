@@ -9,9 +9,7 @@ ghost use Rattle.parquet_pages.specs.Storing.{IsOfType, IsStored, IsStoredAt, le
 use crate::leaf::{decimal_size, type_of};
 use byteorder::{BigEndian, ByteOrder};
 use column_vectors::{AnyColumn, Column, LaneColumn};
-use dm_types::{
-    Bytes, DataType, Flags, Items, LaneBytes, LaneText, NumberList, Value, WholeList,
-};
+use dm_types::{Bytes, DataType, Flags, Items, LaneBytes, LaneText, NumberList, Value, WholeList};
 use parquet_meta::numbers::{BOOLEAN, BYTE_ARRAY, INT32, INT64};
 use std::alloc::{AllocError, Global};
 
@@ -148,10 +146,7 @@ fn empty_list<'a>(alloc: Global, kind: &DataType) -> StoredValues<'a>
 }
 
 /// Adds a value to a list for values of its physical type.
-fn add_value<'a>(
-    list: &mut StoredValues<'a>,
-    value: StoredValue<'a>,
-) -> Result<(), AllocError>
+fn add_value<'a>(list: &mut StoredValues<'a>, value: StoredValue<'a>) -> Result<(), AllocError>
     requires { IsOfType (type_in list.old) value }
     ensures added { OnOk result (values_in list.new ≡ values_in list.old ++ physical_of value.entry ∷ []) }
     ensures kept { type_in list.new ≡ type_in list.old }
@@ -170,7 +165,8 @@ impl<'a> StoredColumn<'a> {
     /// Adds a row with a value, or a null.
     fn add(&mut self, value: Option<StoredValue<'a>>) -> Result<(), AllocError>
         requires { IfSome value (IsOfType (type_in self.old.values)) }
-        ensures levels { OnOk result (self.new.levels ≡ self.old.levels ++ level (option_map physical_of value.entry) ∷ []) }
+        ensures levels { OnOk result (self.new.levels
+            ≡ self.old.levels ++ level (option_map physical_of value.entry) ∷ []) }
         ensures values { OnOk result (values_in self.new.values
             ≡ values_in self.old.values ++ listed (option_map physical_of value.entry)) }
         ensures kept { type_in self.new.values ≡ type_in self.old.values }

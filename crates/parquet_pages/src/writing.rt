@@ -112,11 +112,7 @@ fn meta_of(
 }
 
 /// Adds the chunk of a column. After want of memory a front of it may stand behind `out`.
-fn add_chunk(
-    alloc: Global,
-    column: &AnyColumn,
-    out: &mut Bytes,
-) -> Result<ChunkMeta, AllocError>
+fn add_chunk(alloc: Global, column: &AnyColumn, out: &mut Bytes) -> Result<ChunkMeta, AllocError>
     requires { IsWritableColumn column.now }
     ensures chunk { IfOk result (AddsChunk column.now out.old out.new) }
     ensures err { OnErr result (BeginsWith out.old out.new) }

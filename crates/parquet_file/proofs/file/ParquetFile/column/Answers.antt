@@ -1,10 +1,19 @@
-use Rattle.std.proofs.Common.{◌≡◌, ◌∙◌, sym, Some, Err, true, false, slice_get, rules}
+use Rattle.std.proofs.Common.{◌≡◌, ◌∙◌, sym, subst, Some, Err, true, false, slice_get, rules}
+use Rattle.std.specs.Prelude.{All}
+use Rattle.parquet_meta.specs.Meaning.{IsSound}
+use Rattle.parquet_file.specs.Groups.{HasChunk}
 use Rattle.parquet_pages.specs.Kept.{begun}
 use Rattle.parquet_pages.specs.Types.{fits}
 use Rattle.parquet_pages.specs.declared.fault.FileFault.TheVariants as fault
 use Rattle.parquet_file.proofs.GroupsRead.{mismatch, column-read, column-fails, column-finished, column_says, for_leaf, still-same}
 use Rattle.parquet_file.proofs.SoundGroups.{groups-have}
 use Rattle.parquet_file.proofs.file.ParquetFile.column.Goals as goal
+
+pub read_groups-requires : goal.read_groups-requires
+read_groups-requires c =
+    let sound : IsSound c.args.self.now.footer = search rules in
+    let same : c.args.self.now.footer.groups ≡ c.as_slice-groups.result.now = search rules in
+    subst (All (HasChunk c.args.i)) same (groups-have c.args.self.now.footer c.args.i sound c.requires.leaf)
 
 pub returns-then-not-fits : goal.returns-then-not-fits
 returns-then-not-fits c =
