@@ -1,0 +1,5 @@
+pub mod Whole
+pub mod Held
+pub mod Others
+pub mod Collecting
+pub mod Naming

@@ -1,0 +1,6 @@
+pub mod Types
+pub mod Names
+pub mod Metadata
+pub mod Columns
+pub mod Answers
+pub mod StepsReading

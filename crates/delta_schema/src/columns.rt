@@ -1,0 +1,120 @@
+// The columns of a schema text.
+ghost use Rattle.std.specs.Prelude.{◌≡◌, IfOk, Some, option_map, is_none};
+ghost use Rattle.std.specs.List.{position, filter_map};
+ghost use Rattle.serde_json.specs.View.{view, items_view};
+ghost use Rattle.delta_schema.specs.Answers.{ReadsSchema};
+ghost use Rattle.delta_schema.specs.Columns.{fields_of, names_of, struct_columns as struct_columns_of, columns_of, answer as answer_of, schema_of};
+ghost use Rattle.delta_schema.specs.StepsReading.{Gives};
+
+use crate::fault::{Fault, SchemaFault};
+use crate::fields::columns;
+use crate::members::{member, needed};
+use crate::names::are_good_names;
+use crate::schema::{ColumnDef, TableSchema};
+use dm_types::{Items, Text, TextList};
+use serde_json::Value;
+use std::alloc::{AllocError, Global};
+
+/// The greatest number of columns.
+pub const MAX_COLUMNS: usize = 500;
+
+// The fields of a schema, which is a struct.
+fn fields(value: &Value) -> Option<&[Value]>
+    ensures { option_map (λ fields. items_view fields.now) result ≡ fields_of (view value.now) }
+{
+    let kind = member(value, "type")?.as_str()?;
+    let fields = member(value, "fields")?.as_array()?;
+    if kind == "struct" {
+        Some(fields.as_slice())
+    } else {
+        None
+    }
+}
+
+fn names(alloc: Global, fields: &[Value]) -> Result<TextList, Fault>
+    ensures { Gives (names_of (items_view fields.now)) result }
+{
+    let mut names = Items::new(alloc);
+    for field in fields {
+        names.push(needed(alloc, field, "name")?)?;
+    }
+    Ok(names)
+}
+
+fn struct_columns(
+    alloc: Global,
+    value: &Value,
+    partitions: &[Text],
+) -> Result<Items<Option<ColumnDef>>, Fault>
+    ensures { Gives (struct_columns_of partitions.now (view value.now)) result }
+{
+    let Some(fields) = fields(value) else {
+        return Err(Fault::Bad);
+    };
+    let names = names(alloc, fields)?;
+    if !are_good_names(alloc, names.as_slice(), partitions)? {
+        return Err(Fault::Bad);
+    }
+    columns(alloc, partitions, fields)
+}
+
+// The columns, None for one of a type that no column may have.
+fn text_columns(
+    alloc: Global,
+    text: &Text,
+    partitions: &[Text],
+) -> Result<Items<Option<ColumnDef>>, Fault>
+    ensures { Gives (columns_of text.now partitions.now) result }
+{
+    match Value::from_str(alloc, text.as_str()) {
+        Ok(value) => struct_columns(alloc, &value, partitions),
+        Err(error) if error.is_memory() => Err(Fault::Memory),
+        Err(_) => Err(Fault::Bad),
+    }
+}
+
+// The columns that are there.
+fn present_columns(alloc: Global, columns: Items<Option<ColumnDef>>) -> Result<TableSchema, AllocError>
+    ensures { IfOk result (λ found. found ≡ filter_map (λ column. column) columns) }
+{
+    let found = columns
+        .into_vec()
+        .into_iter()
+        .filter_map(|column| column)
+        .collect(alloc)?;
+    Ok(TableSchema::from_vec(found))
+}
+
+fn unsupported(columns: &[Option<ColumnDef>]) -> Option<usize>
+    ensures { result ≡ position is_none columns.now }
+{
+    columns.iter().position(|column| column.is_none())
+}
+
+fn answer(alloc: Global, columns: Items<Option<ColumnDef>>) -> Result<TableSchema, SchemaFault>
+    ensures { ReadsSchema (answer_of (Some columns)) result }
+{
+    if let Some(column) = unsupported(columns.as_slice()) {
+        return Err(SchemaFault::UnsupportedType { column });
+    }
+    let found = present_columns(alloc, columns)?;
+    if found.len() > MAX_COLUMNS {
+        return Err(SchemaFault::TooMany);
+    }
+    Ok(found)
+}
+
+/// The columns of a schema text, of a table that is partitioned by the columns of these names.
+pub fn read_schema(
+    alloc: Global,
+    text: &Text,
+    partitions: &TextList,
+) -> Result<TableSchema, SchemaFault>
+    ensures { ReadsSchema (schema_of text.now partitions.now) result }
+{
+    match text_columns(alloc, text, partitions.as_slice()) {
+        Ok(columns) => answer(alloc, columns),
+        Err(Fault::Bad) => Err(SchemaFault::BadSchema),
+        Err(Fault::Memory) => Err(SchemaFault::Memory),
+    }
+}
