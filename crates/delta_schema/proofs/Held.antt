@@ -1,5 +1,5 @@
 -- Ordered sets of names.
-use Rattle.std.proofs.Common.{◌≡◌, ℕ, ◌+◌, ◌<◌, length, drop, get_or, add-one, List, [], ◌∷◌, Bool, true, false, ◌||◌, not, refl, sym, ap, ◌∙◌, arith, rules}
+use Rattle.std.proofs.Common.{◌≡◌, ℕ, ◌+◌, ◌<◌, length, drop, get_or, add-one, List, [], ◌∷◌, Bool, true, false, ◌||◌, not, refl, sym, ap, ◌∙◌}
 use Rattle.std.specs.BTreeSet.{insert_key}
 use Rattle.std.specs.Cmp.Lexicographic.{slice_cmp}
 use Rattle.std.specs.List.{list_any}
@@ -114,12 +114,12 @@ pub seen_step : {K : Type 0} (bytes : K → List ℕ) (old now : List K) (k : K)
 seen_step bytes old now k names name i total is within here lower new before =
     let rest = drop (i + 1) names in
     let one : (other : List ℕ) → is_seen bytes now other ≡ (is_seen bytes old other || str_eq_ignore_ascii_case name other) =
-        λ other. ap (λ keys. is_seen bytes keys other) is
-        ∙ inserted bytes (λ key. is_eq (slice_cmp nat_cmp (str_to_ascii_lowercase other) key)) old k
-        ∙ ap (λ (same : Bool). is_seen bytes old other || same)
-          (ap (λ key. is_eq (slice_cmp nat_cmp (str_to_ascii_lowercase other) key)) lower
-          ∙ is_eq-slice_cmp (str_to_ascii_lowercase other) (str_to_ascii_lowercase name)
-          ∙ bytes_turned (str_to_ascii_lowercase other) (str_to_ascii_lowercase name)) in
+    λ other. ap (λ keys. is_seen bytes keys other) is
+    ∙ inserted bytes (λ key. is_eq (slice_cmp nat_cmp (str_to_ascii_lowercase other) key)) old k
+    ∙ ap (λ (same : Bool). is_seen bytes old other || same)
+    (ap (λ key. is_eq (slice_cmp nat_cmp (str_to_ascii_lowercase other) key)) lower
+    ∙ is_eq-slice_cmp (str_to_ascii_lowercase other) (str_to_ascii_lowercase name)
+    ∙ bytes_turned (str_to_ascii_lowercase other) (str_to_ascii_lowercase name)) in
     before
     ∙ ap (clashes bytes old) (drop_here names name i within here)
     ∙ twins_here (is_seen bytes old name) (list_any (is_seen bytes old) rest) (list_any (str_eq_ignore_ascii_case name) rest) (has_twins rest) new

@@ -1,5 +1,5 @@
 -- What reading a schema answers.
-use Rattle.std.specs.Prelude.{◌≡◌, ⊤, ℕ, List, Result, Ok, Err}
+use Rattle.std.specs.Prelude.{◌≡◌, ⊤, List, Result, Ok, Err}
 use Rattle.delta_schema.specs.declared.schema.ColumnDef.{ColumnDef}
 use Rattle.delta_schema.specs.declared.fault.SchemaFault.{SchemaFault}
 use Rattle.delta_schema.specs.declared.fault.SchemaFault.TheVariants as fault

@@ -1,5 +1,5 @@
 -- What a schema text means (PROTOCOL.md, "Schema Serialization Format").
-use Rattle.std.specs.Prelude.{ℕ, ◌+◌, List, [], ◌∷◌, length, Bool, true, false, not, ◌&&◌, ◌||◌, Option, Some, None, unwrap_or, is_some, is_none, codes, nat_le, Result, Ok, Err, if◌then◌else◌}
+use Rattle.std.specs.Prelude.{ℕ, List, length, Bool, true, false, not, ◌&&◌, ◌||◌, Option, Some, None, unwrap_or, is_some, is_none, codes, nat_le, Result, Ok, Err, if◌then◌else◌}
 use Rattle.std.specs.List.{filter_map, position}
 use Rattle.std.specs.Str.{bytes_eq}
 use Rattle.serde_json.specs.Data.{Data, Items}
@@ -10,7 +10,6 @@ use Rattle.dm_types.specs.declared.value.DataType.{DataType}
 use Rattle.dm_types.specs.declared.value.DataType.TheVariants as kind
 use Rattle.delta_actions.specs.Forms.{needed, each_item}
 use Rattle.delta_schema.specs.declared.schema.ColumnDef.{ColumnDef}
-use Rattle.delta_schema.specs.declared.schema.IdentityRule.{IdentityRule}
 use Rattle.delta_schema.specs.declared.fault.SchemaFault.{SchemaFault}
 use Rattle.delta_schema.specs.declared.fault.SchemaFault.TheVariants as fault
 use Rattle.delta_schema.specs.declared.columns.TheConstants.{MAX_COLUMNS}

@@ -1,9 +1,9 @@
 -- The metadata of a field (PROTOCOL.md, "Schema Serialization Format").
-use Rattle.std.specs.Prelude.{ℕ, ◌+◌, ℤ, pos, negsuc, int_le, List, [], ◌∷◌, Bool, true, false, not, ◌==◌, ◌&&◌, ◌||◌, Option, Some, None, is_some, codes, unwrap_or, if◌then◌else◌}
+use Rattle.std.specs.Prelude.{ℕ, ℤ, pos, negsuc, int_le, List, [], ◌∷◌, Bool, true, false, ◌==◌, ◌&&◌, ◌||◌, Option, Some, None, is_some, codes, unwrap_or, if◌then◌else◌}
 use Rattle.std.specs.List.{list_any}
 use Rattle.std.specs.Str.{bytes_eq}
 use Rattle.serde_json.specs.Data.{Data, null, boolean, number, string, array, object, Items, no_items, item, Members, no_members, member}
-use Rattle.serde_json.specs.Find.{get, as_i64, as_bool, as_str, as_object}
+use Rattle.serde_json.specs.Find.{get, as_i64, as_bool, as_object}
 use Rattle.serde_json.specs.Written.{compact_text}
 use Rattle.dm_types.specs.Then.{◌>>=◌}
 use Rattle.delta_actions.specs.Forms.{present, maybe, whole}

@@ -74,7 +74,10 @@ fn text_columns(
 }
 
 // The columns that are there.
-fn present_columns(alloc: Global, columns: Items<Option<ColumnDef>>) -> Result<TableSchema, AllocError>
+fn present_columns(
+    alloc: Global,
+    columns: Items<Option<ColumnDef>>,
+) -> Result<TableSchema, AllocError>
     ensures { IfOk result (λ found. found ≡ filter_map (λ column. column) columns) }
 {
     let found = columns
@@ -104,7 +107,18 @@ fn answer(alloc: Global, columns: Items<Option<ColumnDef>>) -> Result<TableSchem
     Ok(found)
 }
 
-/// The columns of a schema text, of a table that is partitioned by the columns of these names.
+/// The columns of a schema text, of a table that is partitioned by the columns of these names
+/// (PROTOCOL.md, "Schema Serialization Format").
+///
+/// A column may be of the types `string`, `long`, `integer`, `short`, `byte`, `boolean`, `binary`,
+/// `date`, `timestamp` and `decimal(p,s)` in exactly this spelling, p being from 1 to 38 and s from
+/// 0 to p. What is wrong with the text is answered in this order, each over all columns:
+///
+/// - BadSchema: a member is missing or hasn't its form; a number in metadata isn't whole; a name is
+///   empty, or two names are equal up to the case of ASCII letters; a partition column isn't a
+///   column, or is binary; each column is a partition column; an identity isn't of type `long`.
+/// - UnsupportedType: the first column whose type is a nested one or has another name.
+/// - TooMany: more than [`MAX_COLUMNS`] columns.
 pub fn read_schema(
     alloc: Global,
     text: &Text,

@@ -139,7 +139,11 @@ fn other_members(
 }
 
 /// The members that the column doesn't keep by themselves, as compact JSON.
-pub(crate) fn others(alloc: Global, identity: bool, metadata: &Value) -> Result<TextPairs, AllocError>
+pub(crate) fn others(
+    alloc: Global,
+    identity: bool,
+    metadata: &Value,
+) -> Result<TextPairs, AllocError>
     requires { is_whole_data (view metadata.now) ≡ true }
     ensures { IfOk result (λ others. others ≡ others_of identity (view metadata.now)) }
 {

@@ -202,18 +202,14 @@ const BAD_FIELDS: [&str; 36] = [
 ];
 
 /// Partition columns that a table with the columns `a` and `b`, of type binary, can't have.
-const BAD_PARTITIONS: [&[&str]; 6] = [
-    &["c"],
-    &["A"],
-    &[""],
-    &["a", "a "],
-    &["b"],
-    &["a", "b"],
-];
+const BAD_PARTITIONS: [&[&str]; 6] = [&["c"], &["A"], &[""], &["a", "a "], &["b"], &["a", "b"]];
 
 fn push_rule(alloc: Global, line: &mut String, column: &ColumnDef) -> Result<(), AllocError> {
     if let Some(rule) = &column.identity {
-        let text = format!(in alloc; " start={} step={} mark={:?} explicit={}", rule.start, rule.step, rule.mark, rule.explicit)?;
+        let text = format!(in alloc;
+            " start={} step={} mark={:?} explicit={}",
+            rule.start, rule.step, rule.mark, rule.explicit
+        )?;
         line.push_str(text.as_str())?;
     }
     if column.invariant {
@@ -302,7 +298,9 @@ fn schemas_are_read(rt: HostRuntime) -> Result<(), Fail> {
 fn other_types_are_unsupported(rt: HostRuntime) -> Result<(), Fail> {
     let alloc = rt.alloc();
     for name in OTHER_TYPES {
-        let text = format!(in alloc; "{{\"type\":\"struct\",\"fields\":[{{\"name\":\"a\",\"type\":\"{name}\",\"nullable\":true}}]}}")?;
+        let text = format!(in alloc;
+            "{{\"type\":\"struct\",\"fields\":[{{\"name\":\"a\",\"type\":\"{name}\",\"nullable\":true}}]}}"
+        )?;
         let found = outcome(alloc, text.as_str(), &[])?;
         assert_eq!(rt; found.as_str(), "unsupported 0", "{name}");
     }
@@ -317,7 +315,9 @@ fn texts_that_are_no_schema_are_bad(rt: HostRuntime) -> Result<(), Fail> {
         assert_eq!(rt; found.as_str(), "bad", "{text}");
     }
     for field in BAD_FIELDS {
-        let text = format!(in alloc; "{{\"type\":\"struct\",\"fields\":[{{\"name\":\"ok\",\"type\":\"long\",\"nullable\":true}},{field}]}}")?;
+        let text = format!(in alloc;
+            "{{\"type\":\"struct\",\"fields\":[{{\"name\":\"ok\",\"type\":\"long\",\"nullable\":true}},{field}]}}"
+        )?;
         let found = outcome(alloc, text.as_str(), &[])?;
         assert_eq!(rt; found.as_str(), "bad", "{field}");
     }
@@ -327,7 +327,8 @@ fn texts_that_are_no_schema_are_bad(rt: HostRuntime) -> Result<(), Fail> {
 #[test]
 fn partition_columns_are_columns(rt: HostRuntime) -> Result<(), Fail> {
     let alloc = rt.alloc();
-    let text = r#"{"type":"struct","fields":[{"name":"a","type":"long","nullable":true},{"name":"b","type":"binary","nullable":true}]}"#;
+    let text =
+        r#"{"type":"struct","fields":[{"name":"a","type":"long","nullable":true},{"name":"b","type":"binary","nullable":true}]}"#;
     for names in BAD_PARTITIONS {
         let found = outcome(alloc, text, names)?;
         assert_eq!(rt; found.as_str(), "bad", "{names:?}");
@@ -344,10 +345,14 @@ fn partition_columns_are_columns(rt: HostRuntime) -> Result<(), Fail> {
 fn many(alloc: Global, columns: usize, last: &str) -> Result<String, AllocError> {
     let mut text = String::from_str(alloc, "{\"type\":\"struct\",\"fields\":[")?;
     for number in 0..columns {
-        let field = format!(in alloc; "{{\"name\":\"c{number}\",\"type\":\"long\",\"nullable\":true}},")?;
+        let field = format!(in alloc;
+            "{{\"name\":\"c{number}\",\"type\":\"long\",\"nullable\":true}},"
+        )?;
         text.push_str(field.as_str())?;
     }
-    let field = format!(in alloc; "{{\"name\":\"last\",\"type\":\"{last}\",\"nullable\":true}}]}}")?;
+    let field = format!(in alloc;
+        "{{\"name\":\"last\",\"type\":\"{last}\",\"nullable\":true}}]}}"
+    )?;
     text.push_str(field.as_str())?;
     Ok(text)
 }

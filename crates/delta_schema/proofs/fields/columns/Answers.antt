@@ -1,4 +1,3 @@
-use Rattle.std.proofs.Common.{rules}
 use Rattle.serde_json.specs.View.{items_view}
 use Rattle.delta_schema.proofs.Collecting.{same_columns}
 use Rattle.delta_schema.proofs.fields.columns.Goals as goal

@@ -1,4 +1,4 @@
-use Rattle.std.proofs.Common.{rules, ◌∙◌}
+use Rattle.std.proofs.Common.{◌∙◌}
 use Rattle.delta_schema.proofs.Collecting.{same_names}
 use Rattle.delta_schema.proofs.names.are_all_among.Goals as goal
 

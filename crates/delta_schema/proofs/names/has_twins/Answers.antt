@@ -1,4 +1,4 @@
-use Rattle.std.proofs.Common.{rules, arith, ◌≡◌, ◌<◌, true, length, ap, ◌∙◌}
+use Rattle.std.proofs.Common.{rules, ◌≡◌, ◌<◌, true, length}
 use Rattle.std.specs.Prelude.{string_bytes}
 use Rattle.std.specs.Str.{str_to_ascii_lowercase}
 use Rattle.delta_schema.proofs.Held.{seen_begin, seen_step, is_new}
