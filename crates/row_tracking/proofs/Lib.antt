@@ -1,0 +1,5 @@
+pub mod Rows
+pub mod Counted
+pub mod Neighbours
+pub mod Leasts
+pub mod Failing

@@ -1,0 +1,4 @@
+pub mod Ids
+pub mod Checked
+pub mod StepsIds
+pub mod StepsChecked
