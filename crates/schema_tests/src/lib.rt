@@ -1,5 +1,7 @@
-//! Tests of the public calls that read the schema of a table.
+//! Tests of the public calls that read what a table's metadata and its files say of columns and rows.
 #![tactic(auto)]
 
+#[cfg(test)]
+mod row_ids;
 #[cfg(test)]
 mod schemas;
