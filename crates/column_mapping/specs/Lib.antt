@@ -1,0 +1,3 @@
+pub mod Mapping
+pub mod Places
+pub mod Steps
