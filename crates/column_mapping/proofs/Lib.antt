@@ -1,2 +1,3 @@
 mod Firsts
 mod Joining
+mod Within

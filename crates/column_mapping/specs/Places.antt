@@ -1,5 +1,5 @@
 -- Which leaf of a data file holds which column (PROTOCOL.md, "Column Mapping": what readers do).
-use Rattle.std.specs.Prelude.{ℕ, Bool, List, [], ◌∷◌, filter, Option, Some, if◌then◌else◌}
+use Rattle.std.specs.Prelude.{ℕ, ◌<◌, ⊤, length, Bool, List, [], ◌∷◌, filter, Option, Some, if◌then◌else◌}
 use Rattle.std.specs.List.{enumerate_from}
 use Rattle.std.specs.Ordering.{int_eq}
 use Rattle.std.specs.Str.{bytes_eq}
@@ -41,3 +41,10 @@ place_by test leaves column =
 -- the same in a mode
 abbrev pub place_of : Mode → List LeafSchema → ColumnDef → PlaceChoice
 place_of mode leaves column = place_by (carries mode) leaves column
+
+-- the leaf that is named, if one is, is one of these
+abbrev pub IsWithin : List LeafSchema → PlaceChoice → Type 0
+IsWithin leaves choice.Partition = ⊤
+IsWithin leaves choice.Missing = ⊤
+IsWithin leaves (choice.At at) = at < length leaves
+IsWithin leaves choice.Wrong = ⊤

@@ -1,8 +1,8 @@
 // Which leaf of a data file holds which column.
-ghost use Rattle.std.specs.Prelude.{◌≡◌, true, Some, None, map, IfOk, option_copied};
+ghost use Rattle.std.specs.Prelude.{◌≡◌, true, Some, None, map, All, IfOk, option_copied};
 ghost use Rattle.std.specs.Ordering.{int_eq};
 ghost use Rattle.column_mapping.specs.Mapping.{shares};
-ghost use Rattle.column_mapping.specs.Places.{is_named, carriers, choice_of, place_by, place_of};
+ghost use Rattle.column_mapping.specs.Places.{is_named, carriers, choice_of, place_by, place_of, IsWithin};
 ghost use Rattle.column_mapping.specs.Steps.{column_choice, name_in as name_of};
 
 use crate::carriers::{carrier_named, carrier_with, ids, joined_if, names, settled, single};
@@ -42,7 +42,8 @@ pub fn resolve(
     mode: Mode,
     leaves: &LeafList,
 ) -> Result<PlaceChoices, AllocError>
-    ensures { IfOk result (λ choices. choices ≡ map (place_of mode leaves.now) schema.now) }
+    ensures places { IfOk result (λ choices. choices ≡ map (place_of mode leaves.now) schema.now) }
+    ensures within { IfOk result (λ choices. All (IsWithin leaves.now) choices) }
 {
     let columns = schema.as_slice();
     let leaves = leaves.as_slice();
@@ -58,7 +59,8 @@ pub fn resolve(
 ///
 /// No memory is taken: the leaves are gone through once.
 pub fn find_named(name: &Text, leaves: &LeafList) -> PlaceChoice
-    ensures { result ≡ choice_of true (carriers (is_named (Some name.now)) leaves.now) }
+    ensures place { result ≡ choice_of true (carriers (is_named (Some name.now)) leaves.now) }
+    ensures within { IsWithin leaves.now result }
 {
     let mut found = None;
     for (at, leaf) in leaves.as_slice().iter().enumerate() {
