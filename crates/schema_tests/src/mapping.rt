@@ -20,8 +20,14 @@ fn text_of(alloc: Global, text: Option<&str>) -> Result<Option<Text>, AllocError
     }
 }
 
-fn column_of(alloc: Global, column: &Column) -> Result<ColumnDef, AllocError> {
-    let (name, nullable, partition, id, physical) = *column;
+fn column_of(
+    alloc: Global,
+    name: &str,
+    is: (bool, bool),
+    id: Option<i32>,
+    physical: Option<&str>,
+) -> Result<ColumnDef, AllocError> {
+    let (nullable, partition) = is;
     Ok(ColumnDef {
         name: Text::from_str(alloc, name)?,
         kind: DataType::Long,
@@ -38,8 +44,8 @@ fn column_of(alloc: Global, column: &Column) -> Result<ColumnDef, AllocError> {
 
 fn schema_of(alloc: Global, columns: &[Column]) -> Result<TableSchema, AllocError> {
     let mut schema = TableSchema::new(alloc);
-    for column in columns {
-        schema.push(column_of(alloc, column)?)?;
+    for (name, nullable, partition, id, physical) in columns {
+        schema.push(column_of(alloc, *name, (*nullable, *partition), *id, *physical)?)?;
     }
     Ok(schema)
 }
@@ -366,22 +372,20 @@ fn many_leaves(alloc: Global) -> Result<LeafList, AllocError> {
     Ok(leaves)
 }
 
+// A column that is found by this name in modes none and name, and by this id.
+fn numbered(alloc: Global, name: &str, id: i32) -> Result<ColumnDef, AllocError> {
+    column_of(alloc, name, (true, false), Some(id), Some(name))
+}
+
 // The last column is carried by the first leaf.
 fn many_columns(alloc: Global) -> Result<TableSchema, AllocError> {
     let mut schema = TableSchema::new(alloc);
     for column in 0..MANY_COLUMNS {
         let number = STRIDE * (MANY_COLUMNS - 1 - column);
         let name = format!(in alloc; "{number}")?;
-        schema.push(many_column(alloc, name.as_str(), number as i32)?)?;
+        schema.push(numbered(alloc, name.as_str(), number as i32)?)?;
     }
     Ok(schema)
-}
-
-fn many_column(alloc: Global, name: &str, id: i32) -> Result<ColumnDef, AllocError> {
-    let mut column = column_of(alloc, &("", true, false, Some(id), None))?;
-    column.name = Text::from_str(alloc, name)?;
-    column.physical = text_of(alloc, Some(name))?;
-    Ok(column)
 }
 
 #[test]
@@ -404,7 +408,7 @@ fn finds_five_hundred_columns_among_ten_thousand_leaves(rt: HostRuntime) -> Resu
 #[test]
 fn finds_the_last_of_five_hundred_columns_broken(rt: HostRuntime) -> Result<(), Fail> {
     let mut schema = many_columns(rt.alloc())?;
-    schema.push(many_column(rt.alloc(), "0", -1)?)?;
+    schema.push(numbered(rt.alloc(), "0", -1)?)?;
     assert!(rt; check_mapping(&schema, Mode::ByName) == Some(MANY_COLUMNS));
     assert!(rt; check_mapping(&schema, Mode::Plain) == None);
     Ok(())
