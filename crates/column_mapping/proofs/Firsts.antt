@@ -1,5 +1,5 @@
 -- The first place at which a test holds.
-use Rattle.std.proofs.Common.{◌≡◌, ℕ, zero, suc, ◌+◌, ◌<◌, List, length, take, Bool, true, false, cond, Option, Some, None, refl, sym, ap, ◌∙◌, subst, zero-add, arith}
+use Rattle.std.proofs.Common.{◌≡◌, ℕ, zero, suc, ◌+◌, ◌<◌, List, length, take, Bool, true, false, Option, Some, None, refl, sym, ap, ◌∙◌, subst, zero-add, arith}
 use Rattle.std.specs.List.{find, range_with_len, slice_get}
 use Rattle.std.specs.Option.{option_map_or}
 use Rattle.delta_schema.specs.declared.schema.ColumnDef.{ColumnDef}

@@ -1,5 +1,5 @@
 -- A leaf that is named is one of the file's.
-use Rattle.std.proofs.Common.{◌≡◌, ℕ, ◌+◌, ◌<◌, List, [], ◌∷◌, length, map, Bool, true, false, cond, Result, Ok, Err, IfOk, refl, sym, ap, ◌∙◌, subst, zero-add, arith}
+use Rattle.std.proofs.Common.{◌≡◌, ℕ, ◌+◌, ◌<◌, List, [], ◌∷◌, length, map, Bool, true, false, cond, refl, ap, subst, zero-add, arith}
 use Rattle.std.specs.List.{All, filter, enumerate_from}
 use Rattle.std.proofs.lemmas.List.Elements.{All-map, All-same}
 use Rattle.delta_schema.specs.declared.schema.ColumnDef.{ColumnDef}
@@ -48,6 +48,6 @@ unless_partition leaves false own within = within
 place_within : (test : ColumnDef → LeafSchema → Bool) (leaves : List LeafSchema) (column : ColumnDef) → IsWithin leaves (place_by test leaves column)
 place_within test leaves column = unless_partition leaves column.partition (choice_of column.nullable (carriers (test column) leaves)) (carriers_within (test column) leaves column.nullable)
 
-pub choices_within : {E : Type 0} (test : ColumnDef → LeafSchema → Bool) (leaves : List LeafSchema) (columns : List ColumnDef) (result : Result (List PlaceChoice) E) → IfOk result (λ choices. choices ≡ map (place_by test leaves) columns) → IfOk result (λ choices. All (IsWithin leaves) choices)
-choices_within test leaves columns (Ok choices) is = All-same (IsWithin leaves) choices (map (place_by test leaves) columns) is (All-map (IsWithin leaves) (place_by test leaves) columns (λ k d within. place_within test leaves _))
-choices_within test leaves columns (Err e) is = tt
+-- the places of columns
+pub choices_within : (test : ColumnDef → LeafSchema → Bool) (leaves : List LeafSchema) (columns : List ColumnDef) (choices : List PlaceChoice) → choices ≡ map (place_by test leaves) columns → All (IsWithin leaves) choices
+choices_within test leaves columns choices is = All-same (IsWithin leaves) choices (map (place_by test leaves) columns) is (All-map (IsWithin leaves) (place_by test leaves) columns (λ k d within. place_within test leaves _))

@@ -77,8 +77,9 @@ fn by_name(
     mode: Mode,
     leaves: &[LeafSchema],
 ) -> Result<PlaceChoices, AllocError>
-    ensures { IfOk result (λ choices. choices
+    ensures places { IfOk result (λ choices. choices
         ≡ map (place_by (λ column. is_named (name_of mode column)) leaves.now) columns.now) }
+    ensures within { IfOk result (λ choices. All (IsWithin leaves.now) choices) }
 {
     let carried = names(alloc, leaves)?;
     let mut choices = Items::new(alloc);
@@ -95,8 +96,9 @@ fn by_id(
     columns: &[ColumnDef],
     leaves: &[LeafSchema],
 ) -> Result<PlaceChoices, AllocError>
-    ensures { IfOk result (λ choices. choices
+    ensures places { IfOk result (λ choices. choices
         ≡ map (place_by (λ column leaf. shares int_eq leaf.field_id column.id) leaves.now) columns.now) }
+    ensures within { IfOk result (λ choices. All (IsWithin leaves.now) choices) }
 {
     let carried = ids(alloc, leaves)?;
     let mut choices = Items::new(alloc);

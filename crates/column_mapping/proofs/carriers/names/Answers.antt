@@ -1,4 +1,3 @@
-use Rattle.std.proofs.Common.{rules}
 use Rattle.column_mapping.proofs.Joining.{names_none, names_step}
 use Rattle.column_mapping.proofs.carriers.names.Goals as goal
 

@@ -1,8 +1,6 @@
-use Rattle.std.proofs.Common.{◌≡◌, ◌∙◌, sym, Some, take, true, false, rules, arith, below_more, refl}
+use Rattle.std.proofs.Common.{◌≡◌, ◌∙◌, sym, Some, arith, below_more, refl}
 use Rattle.std.specs.List.{slice_get}
 use Rattle.std.proofs.lemmas.Option.{slice_get_read}
-use Rattle.column_mapping.specs.Mapping.{breaks_at, is_unmarked}
-use Rattle.column_mapping.specs.declared.mode.Mode.TheVariants as mode
 use Rattle.column_mapping.proofs.Firsts.{asked, first_found, none_found}
 use Rattle.column_mapping.proofs.mapping.first_unmarked.Goals as goal
 
