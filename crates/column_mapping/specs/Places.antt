@@ -15,8 +15,8 @@ use Rattle.column_mapping.specs.Mapping.{shares}
 abbrev pub is_named : Option (List ℕ) → LeafSchema → Bool
 is_named name leaf = shares bytes_eq (Some leaf.name) name
 
--- the leaf's top-level element carries the column: in mode none by the column's name, in mode name by its physical name,
--- in mode id by its id
+-- the leaf's top-level element carries the column: in mode none by the column's name, in mode name by its physical
+-- name, in mode id by its id
 abbrev pub carries : Mode → ColumnDef → LeafSchema → Bool
 carries mode.Plain column leaf = is_named (Some column.name) leaf
 carries mode.ByName column leaf = is_named column.physical leaf
@@ -26,14 +26,15 @@ carries mode.ById column leaf = shares int_eq leaf.field_id column.id
 unfoldable pub carriers : (LeafSchema → Bool) → List LeafSchema → List (ℕ × LeafSchema)
 carriers test leaves = filter (λ carrier. test carrier.1) (enumerate_from 0 leaves)
 
--- where a column is, from the leaves whose elements carry it: one element holds it if it is a leaf itself, and not a group;
--- where none carries it, it reads as null if it may
+-- where a column is, from the leaves whose elements carry it: one element holds it if it is a leaf itself, and not a
+-- group; where none carries it, it reads as null if it may. Leaves of one group are several
 abbrev pub choice_of : Bool → List (ℕ × LeafSchema) → PlaceChoice
 choice_of nullable [] = if nullable then choice.Missing else choice.Wrong
 choice_of nullable (carrier ∷ []) = if carrier.1.top then choice.At carrier.0 else choice.Wrong
 choice_of nullable (first ∷ second ∷ more) = choice.Wrong
 
--- where the column is among these leaves, if the test says which elements carry it; a partition column isn't in data files
+-- where the column is among these leaves, if the test says which elements carry it; a partition column isn't in data
+-- files
 abbrev pub place_by : (ColumnDef → LeafSchema → Bool) → List LeafSchema → ColumnDef → PlaceChoice
 place_by test leaves column =
     if column.partition then choice.Partition else choice_of column.nullable (carriers (test column) leaves)

@@ -1,4 +1,5 @@
--- What the search for the leaves of columns keeps: under each name, or each field id, where a column that it carries is.
+-- What the search for the leaves of columns keeps: under each name, or each field id, where a column is that it
+-- carries.
 use Rattle.std.specs.Prelude.{◌≡◌, ℕ, ℤ, Bool, List, [], ◌∷◌, Option, Some, None, if◌then◌else◌}
 use Rattle.std.specs.Borrow.{Bor}
 use Rattle.std.specs.BTreeMap.{BTreeMap, get, get_by}
@@ -38,7 +39,8 @@ pub record KeepsByName (places : BTreeMap (Bor (List ℕ)) PlaceChoice) (leaves 
 
 -- under each field id the map has what the leaves carry by it
 pub record KeepsById (places : BTreeMap ℤ PlaceChoice) (leaves : List LeafSchema) : Type 0 where
-  pub under : (id : ℤ) → get int_cmp places id ≡ carried (carriers (λ leaf. shares int_eq leaf.field_id (Some id)) leaves)
+  pub under : (id : ℤ)
+      → get int_cmp places id ≡ carried (carriers (λ leaf. shares int_eq leaf.field_id (Some id)) leaves)
 
 -- where a column is that the leaves carry so
 abbrev pub settled : Bool → Option PlaceChoice → PlaceChoice

@@ -3,7 +3,8 @@ ghost use Rattle.std.specs.Prelude.{◌≡◌};
 ghost use Rattle.std.specs.List.{list_any};
 ghost use Rattle.std.specs.Ordering.{int_eq};
 ghost use Rattle.std.specs.Str.{bytes_eq};
-ghost use Rattle.column_mapping.specs.Mapping.{shares, lacks_mark as lacks_mark_of, clashes as clashes_of, is_unmarked, first_broken};
+ghost use Rattle.column_mapping.specs.Mapping.{shares, lacks_mark as lacks_mark_of, clashes as clashes_of};
+ghost use Rattle.column_mapping.specs.Mapping.{is_unmarked, first_broken};
 
 use crate::mode::Mode;
 use delta_schema::{ColumnDef, TableSchema};
