@@ -1,4 +1,5 @@
--- Numbers packed into bits (Encodings.md, "Run Length Encoding / Bit-Packing Hybrid": "the values are packed from the least significant bit of each byte to the most significant bit").
+-- Numbers packed into bits (Encodings.md, "Run Length Encoding / Bit-Packing Hybrid": "the values are packed from the
+-- least significant bit of each byte to the most significant bit").
 use Rattle.std.specs.Prelude.{ℕ, zero, suc, ◌+◌, ◌*◌, ◌/◌, ◌%◌, List, [], ◌∷◌, take, drop, map}
 use Rattle.std.specs.List.{flat_map, range_with_len}
 

@@ -65,7 +65,8 @@ runs_at (suc most) width count bytes =
 abbrev pub with_used : List ℕ → Front (List ℕ) → Option (List ℕ × ℕ)
 with_used bytes read = option_map (λ found. (found.0, length bytes - length found.1)) read
 
--- the first `count` numbers of the runs at the front, and in how many bytes they are; each run has a byte, so there are at most as many as bytes
+-- the first `count` numbers of the runs at the front, and in how many bytes they are; each run has a byte, so there are
+-- at most as many as bytes
 unfoldable pub runs_of : ℕ → ℕ → List ℕ → Option (List ℕ × ℕ)
 runs_of width count bytes =
     if nat_lt 32 width then None

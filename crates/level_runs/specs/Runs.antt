@@ -43,7 +43,8 @@ bytes_of runs = flat_map (λ run. run.0) runs
 abbrev pub numbers_of : RunPairs → List ℕ
 numbers_of runs = flat_map (λ run. run.1) runs
 
--- the bytes are runs one after the other, their numbers are at least `count`, no run begins once `count` numbers are there, and the list is the first `count` of them
+-- the bytes are runs one after the other, their numbers are at least `count`, no run begins once `count` numbers are
+-- there, and the list is the first `count` of them
 pub record MeansRuns (width count : ℕ) (bytes numbers : List ℕ) : Type 0 where
   pub runs : RunPairs
   pub each : AllByRecursion (λ run. IsRun width run.0 run.1) runs

@@ -1,4 +1,5 @@
--- A number as a varint, which begins each run (Encodings.md, "Run Length Encoding / Bit-Packing Hybrid"): ULEB128, in at most 10 bytes, below 2 ^ 64.
+-- A number as a varint, which begins each run (Encodings.md, "Run Length Encoding / Bit-Packing Hybrid"): ULEB128, in
+-- at most 10 bytes, below 2 ^ 64.
 use Rattle.std.specs.Prelude.{◌≡◌, ℕ, ◌+◌, ◌*◌, ◌%◌, ◌^◌, ◌<◌, ◌≤◌, List, [], ◌∷◌, length}
 
 -- the number of seven bits from each byte, the lowest first

@@ -21,7 +21,9 @@ pub record AreFlags (flags : List Bool) (bytes : List ℕ) : Type 0 where
 
 -- so many truth values at the front
 abbrev pub flags_at : ℕ → List ℕ → Front (List Bool)
-flags_at count bytes = if nat_lt (length bytes) (flag_bytes count) then None else Some (flags_in bytes count, drop (flag_bytes count) bytes)
+flags_at count bytes =
+    if nat_lt (length bytes) (flag_bytes count) then None
+    else Some (flags_in bytes count, drop (flag_bytes count) bytes)
 
 -- ---- the bytes that are written: bits behind the last one are 0
 

@@ -1,4 +1,5 @@
--- The form of one value, for the physical types whose values stand one after the other (Encodings.md, "Plain: (PLAIN = 0)").
+-- The form of one value, for the physical types whose values stand one after the other (Encodings.md, "Plain: (PLAIN =
+-- 0)").
 use Rattle.std.specs.Prelude.{◌≡◌, ℕ, ℤ, ◌^◌, ◌<◌, ◌++◌, List, length, option_map, FitsSigned}
 use Rattle.std.specs.Int.{cast_signed, cast_unsigned, w32, w64}
 use Rattle.byteorder.specs.Endian.{little_number, little_bytes}

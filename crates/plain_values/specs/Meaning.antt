@@ -8,7 +8,8 @@ abbrev pub AreBytes : List ℕ → Type 0
 AreBytes bytes = (place : ℕ) → slice_index bytes place < 256
 
 -- each value is one of its type, and the bytes are the values' own, one after the other
-pub record StandInTurn {V : Type 0} (is : V → Type 0) (spelled : V → List ℕ) (values : List V) (bytes : List ℕ) : Type 0 where
+pub record StandInTurn {V : Type 0} (is : V → Type 0) (spelled : V → List ℕ) (values : List V) (bytes : List ℕ)
+    : Type 0 where
   pub each : All is values
   pub joined : bytes ≡ flat_map spelled values
 
@@ -48,7 +49,8 @@ whole (Some found) = whole_at found.0 found.1
 -- ---- what an answer says
 
 -- a front of bytes is so many values, and bytes are left behind it
-pub record HasMore {A : Type 0} (count_of : A → ℕ) (means : A → List ℕ → Type 0) (count : ℕ) (bytes : List ℕ) : Type 0 where
+pub record HasMore {A : Type 0} (count_of : A → ℕ) (means : A → List ℕ → Type 0) (count : ℕ) (bytes : List ℕ)
+    : Type 0 where
   pub values : A
   pub front : List ℕ
   pub rest : List ℕ
@@ -61,4 +63,5 @@ pub record HasMore {A : Type 0} (count_of : A → ℕ) (means : A → List ℕ �
 abbrev pub Judges : {A : Type 0} → (A → ℕ) → (A → List ℕ → Type 0) → ℕ → List ℕ → Result A Wrong → Type 0
 Judges count_of means count bytes (Ok values) = (count_of values ≡ count) × means values bytes
 Judges count_of means count bytes (Err extra) = HasMore count_of means count bytes
-Judges {A} count_of means count bytes (Err short) = (values : A) (front rest : List ℕ) → count_of values ≡ count → means values front → bytes ≡ front ++ rest → ⊥
+Judges {A} count_of means count bytes (Err short) =
+    (values : A) (front rest : List ℕ) → count_of values ≡ count → means values front → bytes ≡ front ++ rest → ⊥

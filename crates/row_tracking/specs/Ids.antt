@@ -16,8 +16,8 @@ lacks_base add = is_none add.base_row_id || is_none add.default_row_commit_versi
 abbrev pub number_at : Cells → ℕ → Option ℤ
 number_at column k = kept_long (slice_index_or column.values k Null)
 
--- the id of a row without a materialized one: the file's base row id plus the row's position. Past the greatest id it is
--- -1, which no row may have
+-- the id of a row without a materialized one: the file's base row id plus the row's position. Past the greatest id it
+-- is -1, which no row may have
 abbrev pub id_from : ℤ → ℕ → ℤ
 id_from base k = let id = base +ℤ pos k in if int_lt (pos (2 ^ 63 - 1)) id then negsuc 0 else id
 

@@ -1,5 +1,5 @@
--- The grammar of expressions. A production goes with the script's bytes, at which the tree of its tokens holds names, texts and
--- numbers, and with a number: how many brackets and CASEs may still be opened within one another.
+-- The grammar of expressions. A production goes with the script's bytes, at which the tree of its tokens holds names,
+-- texts and numbers, and with a number: how many brackets and CASEs may still be opened within one another.
 use Rattle.std.specs.Prelude.{ℕ, zero, suc, Bool, List, ◌∷◌, Option, Some, None}
 use Rattle.token_lang.specs.Lang.{Lang, one, nothing, never, both, either, valued, many, at_most, any_of}
 use Rattle.sql_tree.specs.declared.token.Kind.{Kind}

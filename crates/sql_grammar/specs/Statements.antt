@@ -1,5 +1,5 @@
--- The grammar of statements and scripts: the tree of each statement, what it holds of the script, its production, and the
--- reader of this production.
+-- The grammar of statements and scripts: the tree of each statement, what it holds of the script, its production, and
+-- the reader of this production.
 use Rattle.std.specs.Prelude.{ℕ, Bool, ◌||◌, List}
 use Rattle.token_lang.specs.Lang.{Lang, both, either, valued, many}
 use Rattle.token_lang.specs.Run.{Reader, run_both, run_either}

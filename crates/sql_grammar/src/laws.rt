@@ -85,7 +85,8 @@ pub fn places_are_first()
 
 /// A law: there is one such place.
 pub fn places_are_one()
-    ensures scripts { (bytes : List ℕ) (tokens rest other : List Token) → IsLongest (statements.script bytes) tokens rest
+    ensures scripts { (bytes : List ℕ) (tokens rest other : List Token)
+        → IsLongest (statements.script bytes) tokens rest
         → IsLongest (statements.script bytes) tokens other → rest ≡ other }
     ensures expressions { (bytes : List ℕ) (tokens rest other : List Token) → IsLongest
         (grammar.expression bytes) tokens rest → IsLongest (grammar.expression bytes) tokens other → rest ≡ other }
@@ -98,15 +99,18 @@ pub fn common_fronts()
     ensures names { (bytes : List ℕ) (depth : ℕ) → let arguments = grammar.arguments bytes depth
         (grammar.inside bytes depth) in
         Same (grammar.named bytes depth (grammar.inside bytes depth))
-        (either (valued (tree.named bytes) (both (one (any names_alone)) (grammar.maybe (valued (tree.qualified bytes) (both (grammar.token Kind.Dot) grammar.name)))))
+        (either (valued (tree.named bytes) (both (one (any names_alone))
+        (grammar.maybe (valued (tree.qualified bytes) (both (grammar.token Kind.Dot) grammar.name)))))
         (valued (λ p. tree.named bytes (p.0, Some p.1)) (both (one (any names_alone)) arguments))) }
     ensures dates { (bytes : List ℕ) (depth : ℕ) → let tail = grammar.tail bytes depth (grammar.inside bytes depth) in
         Same (grammar.dated bytes depth (grammar.inside bytes depth))
-        (either (valued (tree.named bytes) (both (one (any dates)) (grammar.maybe (valued (tree.dated bytes) grammar.text))))
+        (either (valued (tree.named bytes) (both (one (any dates))
+        (grammar.maybe (valued (tree.dated bytes) grammar.text))))
         (valued (λ p. tree.named bytes (p.0, Some p.1)) (both (one (any dates)) tail))) }
     ensures ranges { (bytes : List ℕ) (depth : ℕ) → let inside = grammar.inside bytes depth in
         Same (grammar.range bytes depth inside)
-        (either (valued tree.maybe_not (both (grammar.maybe (grammar.token Kind.Not)) (grammar.between bytes depth inside)))
+        (either (valued tree.maybe_not (both (grammar.maybe (grammar.token Kind.Not))
+        (grammar.between bytes depth inside)))
         (valued tree.maybe_not (both (grammar.maybe (grammar.token Kind.Not)) (grammar.among bytes depth inside)))) }
 {}
 

@@ -266,7 +266,8 @@ fn branch(source: &Source<'_>, tokens: &mut Tokens<'_>, depth: usize) -> Result<
 
 #[cycle(expr)]
 fn branches(source: &Source<'_>, tokens: &mut Tokens<'_>, depth: usize) -> Result<Branches, Fault>
-    ensures { Yields (reading.run_branches source.now depth (run_inside source.now depth) tokens.old) result tokens.new }
+    ensures { Yields (reading.run_branches source.now depth (run_inside source.now depth) tokens.old)
+        result tokens.new }
 {
     let mut all = Items::new(source.alloc());
     all.push(branch(source, tokens, depth)?)?;
@@ -492,7 +493,8 @@ fn test(source: &Source<'_>, tokens: &mut Tokens<'_>, depth: usize) -> Result<Ex
 
 #[cycle(expr)]
 fn negation(source: &Source<'_>, tokens: &mut Tokens<'_>, depth: usize) -> Result<Expr, Fault>
-    ensures { Yields (reading.run_negation source.now depth (run_inside source.now depth) tokens.old) result tokens.new }
+    ensures { Yields (reading.run_negation source.now depth (run_inside source.now depth) tokens.old)
+        result tokens.new }
 {
     let nots = prefixes(source, tokens, Class::Not)?;
     let expr = test(source, tokens, depth)?;

@@ -22,7 +22,8 @@ pub fn read_script(alloc: Global, bytes: &[u8]) -> Result<Stmts, ScriptFault>
     // The tokens of the bytes are a script with these statements.
     ensures found { IfOk result (λ all. (statements.script bytes.now).reads (tokens bytes.now) all []) }
     // A script is read unless memory runs out, and has no other statements.
-    ensures only { (all : List Stmt) → (statements.script bytes.now).reads (tokens bytes.now) all [] → IsRead result all }
+    ensures only { (all : List Stmt) → (statements.script bytes.now).reads (tokens bytes.now) all []
+        → IsRead result all }
     // A fault's place is the first token up to which no script begins with the tokens, or the end.
     ensures place { (at : ℕ) → result ≡ Err (ScriptFault.BadScript at) → IsPlace (statements.script bytes.now)
         (length bytes.now) (tokens bytes.now) at }

@@ -24,7 +24,8 @@ has_room newest = if nat_lt (newest + 1) (2 ^ 63) then Ok tt else Err (refusal.T
 -- no change files are to be written
 abbrev pub keeps_rules : Snapshot → Result (Unit {0}) TableRefusal
 keeps_rules table =
-    if is_on table (codes "delta.enableChangeDataFeed") then Err (refusal.UnsupportedRule (codes "delta.enableChangeDataFeed"))
+    if is_on table (codes "delta.enableChangeDataFeed")
+    then Err (refusal.UnsupportedRule (codes "delta.enableChangeDataFeed"))
     else Ok tt
 
 -- the table may be written, or the first refusal
