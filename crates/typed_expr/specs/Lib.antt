@@ -1,0 +1,11 @@
+pub mod Kinds
+pub mod Tables
+pub mod Rules
+pub mod Literals
+pub mod Columns
+pub mod Forms
+pub mod Typing
+pub mod Steps
+pub mod Judging
+pub mod HasType
+pub mod Comes
