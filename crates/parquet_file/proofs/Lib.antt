@@ -4,3 +4,4 @@ pub mod LeavesWritten
 pub mod FilesBack
 pub mod FilesWritten
 pub mod SoundGroups
+pub mod RowsHeld

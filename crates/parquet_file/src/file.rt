@@ -1,5 +1,5 @@
 // A file that is read.
-ghost use Rattle.std.specs.Prelude.{◌≡◌, ◌<◌, ◌≤ℤ◌, length, pos, slice_get, All, Some, Ok};
+ghost use Rattle.std.specs.Prelude.{◌≡◌, ◌<◌, ◌≤ℤ◌, length, pos, slice_get, All, Some, IfOk, Ok};
 ghost use Rattle.dm_types.specs.Ranges.{IsWellFormed};
 ghost use Rattle.dm_types.specs.Then.{go};
 ghost use Rattle.parquet_pages.specs.Answers.{Gives};
@@ -12,7 +12,7 @@ ghost use Rattle.parquet_pages.specs.Views.{wanted};
 
 use column_vectors::AnyColumn;
 use dm_types::DataType;
-use parquet_meta::{ChunkMeta, Footer, LeafSchema, RowGroup};
+use parquet_meta::{ChunkMeta, Footer, LeafList, LeafSchema, RowGroup};
 use parquet_pages::{ColumnReader, FileFault, fits, laws};
 use std::alloc::Global;
 use std::marker::Model;
@@ -59,11 +59,39 @@ impl<'a> ParquetFile<'a> {
         self.footer.leaves.get(i)
     }
 
+    /// The leaves of the schema, in order. It takes no memory.
+    pub fn leaves(&self) -> &LeafList
+        ensures { result.now ≡ self.now.footer.leaves }
+    {
+        &self.footer.leaves
+    }
+
     /// The column of a leaf, over all row groups, or the first fault: Mismatch where the leaf doesn't
     /// hold values of the type; then chunk by chunk Compressed, BadParquet, Encoding and Range, as
     /// `parquet_pages::read_chunk` has them; and TextLimit where the texts or bytes of the column have
-    /// more than `text_left` bytes together.
+    /// more than `text_left` bytes together. A column has a value for each row of the file.
     pub fn column(
+        &self,
+        alloc: Global,
+        i: usize,
+        kind: &DataType,
+        nullable: bool,
+        text_left: u64,
+    ) -> Result<AnyColumn, FileFault>
+        requires leaf { i < length self.now.footer.leaves }
+        requires kind { IsWellFormed kind.now }
+        ensures values { (leaf : ALeaf) → slice_get self.now.footer.leaves i ≡ Some leaf
+            → let wanted : Wanted = record { kind = kind.now; nullable = nullable; leaf = leaf } in
+            Gives (λ column. column) (go (column_of self.now i wanted text_left)
+            (λ values. Ok (record { kind = kind.now; values = values }))) result }
+        ensures rows { IfOk result (λ column. pos (length column.values) ≡ self.now.footer.rows) }
+    {
+        laws::chunks_are_whole();
+        self.read_column(alloc, i, kind, nullable, text_left)
+    }
+
+    // The column of a leaf, or the first fault.
+    fn read_column(
         &self,
         alloc: Global,
         i: usize,

@@ -12,3 +12,4 @@ pub mod Taken
 pub mod Typed
 pub mod ValuesBack
 pub mod Whole
+pub mod WholeChunks

@@ -1,10 +1,12 @@
 // Columns that are read, chunk after chunk.
-ghost use Rattle.std.specs.Prelude.{◌≡◌, ℕ, Bool, List, [], ◌++◌, Ok};
+ghost use Rattle.std.specs.Prelude.{◌≡◌, ℕ, Bool, List, [], ◌++◌, length, Ok};
 ghost use Rattle.dm_types.specs.Then.{go};
 ghost use Rattle.dm_types.specs.declared.value.DataType.{DataType as AType};
 ghost use Rattle.dm_types.specs.declared.value.Value.{Value as AValue};
-ghost use Rattle.parquet_pages.specs.Chunk.{within};
+ghost use Rattle.parquet_meta.specs.declared.metadata.ChunkMeta.{ChunkMeta as AChunk};
+ghost use Rattle.parquet_pages.specs.Chunk.{chunk_values, within};
 ghost use Rattle.parquet_pages.specs.Kept.{begun, finished, with_more};
+ghost use Rattle.parquet_pages.specs.Pages.{Wanted};
 ghost use Rattle.parquet_pages.specs.declared.kept.Reading.{Reading as AReading};
 
 /// A law: values that are added after others are added as one list with them, and a column that is
@@ -17,3 +19,11 @@ pub fn columns_grow()
         → finished (with_more values (begun kind nullable text_left)).kept
         ≡ go (within text_left values) (λ all. Ok (record { kind = kind; values = all })) }
 {}
+
+/// A law: a chunk whose values are read has one for each of its rows.
+pub fn chunks_are_whole()
+    ensures { (file : List ℕ) (chunk : AChunk) (wanted : Wanted) (rows : ℕ) (values : List AValue)
+        → chunk_values file chunk wanted rows ≡ Ok values → length values ≡ rows }
+{
+    level_runs::laws::runs_fit();
+}
