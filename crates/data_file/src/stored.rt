@@ -42,7 +42,7 @@ pub(crate) fn repeated(
     ensures { IfOk result (λ column. column ≡ record { kind = kind; values = replicate rows value.now }) }
 {
     let mut column = AnyColumn::new(alloc, kind);
-    for _row in 0..rows {
+    for _ in 0..rows {
         column.push(value.clone()?)?;
     }
     Ok(column)

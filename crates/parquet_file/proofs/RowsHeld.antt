@@ -1,7 +1,7 @@
 -- A column that is read has a value for each row of the file.
 use Rattle.std.proofs.Common.{◌≡◌, ℕ, ◌+◌, ◌<◌, ◌≤◌, ◌⊎◌, inl, inr, Bool, true, false, cond, List, [], ◌∷◌, ◌++◌, Option, Some, None, Result, Ok, Err, length, ℤ, pos, negsuc, slice_get, get_or, refl, sym, ap, ◌∙◌, subst, length-append, arith, rules}
 use Rattle.std.specs.Prelude.{IfOk, nat_le, not}
-use Rattle.std.specs.List.{list_all, sum_by, filter_map}
+use Rattle.std.specs.List.{list_all}
 use Rattle.std.specs.Int.Signed.{le_z}
 use Rattle.std.specs.Ordering.{int_eq}
 use Rattle.std.specs.Cmp.{signed_Decides}
@@ -47,7 +47,8 @@ unless false f known a e = e
 -- ---- the rows of chunks
 
 abbrev rows_in : List GroupChunk → ℕ
-rows_in chunks = sum_by (λ it. it.rows) chunks
+rows_in [] = 0
+rows_in (first ∷ more) = first.rows + rows_in more
 
 chunks_count : ChunksWhole → (pages : List ℕ) (w : Wanted) (chunks : List GroupChunk) (values : List Value) → chunks_values pages w chunks ≡ Ok values → length values ≡ rows_in chunks
 unfolding chunks_values

@@ -87,6 +87,8 @@ impl<'a> ParquetFile<'a> {
         ensures rows { IfOk result (λ column. pos (length column.values) ≡ self.now.footer.rows) }
     {
         laws::chunks_are_whole();
+        // The footer is sound, so that the rows of its groups add up.
+        let _ = &self.footer;
         self.read_column(alloc, i, kind, nullable, text_left)
     }
 

@@ -111,9 +111,9 @@ entries_count w levels known values e =
 data_count : RunsFit → (w : Wanted) (dictionary : Option (List Physical)) (header : PageV1) (bytes : List ℕ) (values : List Value) → data_page w dictionary header bytes ≡ Ok values → length values ≡ unsigned_abs header.values
 data_count fit w dictionary header bytes values e =
     let good = unless (not (is_known w.leaf.optional header)) fault.Encoding (go (or_else fault.BadParquet (levels_at w.leaf.optional (unsigned_abs header.values) bytes)) (λ levels.
-        entries_of w levels.0 (page_values w.leaf dictionary header.encoding (full levels.0) levels.1))) values e in
+    entries_of w levels.0 (page_values w.leaf dictionary header.encoding (full levels.0) levels.1))) values e in
     let levels = went (or_else fault.BadParquet (levels_at w.leaf.optional (unsigned_abs header.values) bytes)) (λ levels.
-        entries_of w levels.0 (page_values w.leaf dictionary header.encoding (full levels.0) levels.1)) values good in
+    entries_of w levels.0 (page_values w.leaf dictionary header.encoding (full levels.0) levels.1)) values good in
     entries_count w levels.from.0 _ values levels.gives ∙ levels_count fit w.leaf.optional (unsigned_abs header.values) bytes levels.from (told_ok fault.BadParquet _ levels.from levels.is)
 
 -- ---- page after page
@@ -166,7 +166,7 @@ page_takes fit w state (role.Entries page) body found enough e =
     let count : length read.from ≡ unsigned_abs page.values = data_count fit w state.dictionary page body read.from read.is in
     took state (read.from, record { first = false; dictionary = state.dictionary; left = state.left - unsigned_abs page.values }) found (let e = read.gives in cc) (omega (arith, count, enough))
 page_takes fit w state role.Index body found enough e =
-    took state ([], record { first = false; dictionary = state.dictionary; left = state.left }) found cc (omega arith)
+    took state ([], record { first = false; dictionary = state.dictionary; left = state.left }) found (cc) (omega arith)
 page_takes fit w state (role.Dictionary page) body found enough e =
     let read = went (dictionary_page w.leaf page body) (λ values. Ok ([], record { first = false; dictionary = Some values; left = state.left })) found e in
     took state ([], record { first = false; dictionary = Some read.from; left = state.left }) found (let e = read.gives in cc) (omega arith)
@@ -192,10 +192,10 @@ pages_count fit (suc most) w state bytes values e =
     go (page_entries w state page.header page.body) (λ found.
     go (pages_at most w found.1 page.rest) (λ more. Ok (found.0 ++ more))))) (eqb state.left 0) refl (λ rest.
     let page = went (or_else fault.BadParquet (page_at bytes)) (λ page.
-        go (page_entries w state page.header page.body) (λ found.
-        go (pages_at most w found.1 page.rest) (λ more. Ok (found.0 ++ more)))) values rest in
+    go (page_entries w state page.header page.body) (λ found.
+    go (pages_at most w found.1 page.rest) (λ more. Ok (found.0 ++ more)))) values rest in
     let found = went (page_entries w state page.from.header page.from.body) (λ found.
-        go (pages_at most w found.1 page.from.rest) (λ more. Ok (found.0 ++ more))) values page.gives in
+    go (pages_at most w found.1 page.from.rest) (λ more. Ok (found.0 ++ more))) values page.gives in
     let more = went (pages_at most w found.from.1 page.from.rest) (λ more. Ok (found.from.0 ++ more)) values found.gives in
     let same : found.from.0 ++ more.from ≡ values = let e = more.gives in cc in
     let here : length found.from.0 + found.from.1.left ≡ state.left = entries_take fit w state page.from.header page.from.body found.from found.is in

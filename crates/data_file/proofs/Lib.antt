@@ -1,0 +1,5 @@
+mod Begun
+mod Columns
+mod Kinds
+mod Partitions
+mod Texts
