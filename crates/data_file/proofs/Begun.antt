@@ -33,6 +33,16 @@ goes_on {A} known step a is = ap (λ (k : Answer A). go k step) is
 pub gives_same : {A : Type 0} (Y : Type 0) (view : Y → A) (known whole : Answer A) (result : Result Y PartFault) → whole ≡ known → Gives {X = Y} view known result → Gives {X = Y} view whole result
 gives_same {A} Y view known whole result same is = let P : Answer A → Type 0 = λ k. Gives {X = Y} view k result in subst P (sym same) is
 
+-- a step that gave something
+pub record Went {A B : Type 0} (known : Answer A) (step : A → Answer B) (b : B) : Type 0 where
+  pub from : A
+  pub is : known ≡ Ok from
+  pub gives : step from ≡ Ok b
+
+pub went : {A B : Type 0} (known : Answer A) (step : A → Answer B) (b : B) → go known step ≡ Ok b → Went known step b
+went (Ok a) step b e = record { from = a; is = refl; gives = e }
+went (Err f) step b e = absurd cc
+
 -- the next element
 pub next_of : {X : Type 0} (k : ℕ) (xs : List X) (x : X) → k < length xs → x ≡ get_or xs k x → drop k xs ≡ x ∷ drop (k + 1) xs
 next_of {X} k xs x inside is =

@@ -1,5 +1,11 @@
 mod Begun
-mod Columns
-mod Kinds
-mod Partitions
-mod Texts
+mod ColumnByColumn
+mod Constants
+mod GivenValues
+mod KindTests
+mod LeavesRead
+mod Named
+mod Opened
+mod Steps
+mod TextSizes
+mod Types

@@ -1,6 +1,8 @@
 -- What a reader of a file returned, beside what the file says.
-use Rattle.std.specs.Prelude.{◌≡◌, ⊤, ℕ, length, Result, Ok, Err}
+use Rattle.std.specs.Prelude.{◌≡◌, ⊤, ℕ, true, List, length, map, replicate, slice_get, Some, Result, Ok, Err}
 use Rattle.column_vectors.specs.Cells.{Cells}
+use Rattle.delta_schema.specs.declared.schema.ColumnDef.{ColumnDef}
+use Rattle.dm_types.specs.declared.value.Value.{Value}
 use Rattle.data_file.specs.Room.{Answer}
 use Rattle.data_file.specs.declared.fault.PartFault.{PartFault}
 use Rattle.data_file.specs.declared.fault.PartFault.TheVariants as fault
@@ -14,3 +16,13 @@ Gives view known (Err other) = known ≡ Err other
 -- the column has a value for each of so many rows
 abbrev pub HasRows : ℕ → Cells → Type 0
 HasRows rows column = length column.values ≡ rows
+
+-- the columns are of the types of these columns of a schema
+abbrev pub HasTypes : List ColumnDef → List Cells → Type 0
+HasTypes schema columns = map (λ column. column.kind) columns ≡ map (λ column. column.kind) schema
+
+-- each partition column of a schema has one value in all of so many rows
+abbrev pub HasConstants : List ColumnDef → ℕ → List Cells → Type 0
+HasConstants schema rows columns =
+    (at : ℕ) (column : ColumnDef) → slice_get schema at ≡ Some column → column.partition ≡ true
+    → (v : Value) × (slice_get columns at ≡ Some (record { kind = column.kind; values = replicate rows v }))

@@ -1,7 +1,10 @@
 // The kinds of changes of a change file.
 ghost use Rattle.std.specs.Prelude.{◌≡◌, length, IfOk, IfSome};
 ghost use Rattle.std.specs.List.{list_all};
+ghost use Rattle.std.specs.Option.{option_copied};
+ghost use Rattle.column_vectors.specs.Cells.{value_or_null};
 ghost use Rattle.dm_types.specs.declared.value.DataType.TheVariants as kind;
+ghost use Rattle.dm_types.specs.declared.value.Value.TheVariants as value;
 ghost use Rattle.data_file.specs.Answers.{Gives};
 ghost use Rattle.data_file.specs.Kinds as spec;
 ghost use Rattle.data_file.specs.Stored.{rows_in};
@@ -24,12 +27,22 @@ fn is_kind(text: &Text) -> bool
     )
 }
 
+// Whether there is a text, and it is one of them.
+fn is_kind_there(text: Option<&Text>) -> bool
+    ensures { result ≡ spec.is_kind (value_or_null value.Text (option_copied text.entry)) }
+{
+    match text {
+        Some(text) => is_kind(text),
+        None => false,
+    }
+}
+
 // Whether each text is one of them, and none is null.
 fn are_kinds(texts: &Column<LaneText>) -> bool
     ensures { result ≡ list_all spec.is_kind texts.now.values }
 {
     for row in 0..texts.len() {
-        if !texts.get(row).is_some_and(is_kind) {
+        if !is_kind_there(texts.get(row)) {
             return false;
         }
     }

@@ -1,5 +1,7 @@
 // The values of a file's partition columns.
-ghost use Rattle.std.specs.Prelude.{◌≡◌, length, [], All, IfOk, IfSome};
+ghost use Rattle.std.specs.Prelude.{◌≡◌, length, [], All, IfOk, IfSome, find};
+ghost use Rattle.std.specs.Option.{option_copied};
+ghost use Rattle.std.specs.Str.{bytes_eq};
 ghost use Rattle.dm_text.specs.Answers.{ReadsText};
 ghost use Rattle.dm_types.specs.Ranges.{IsWellFormed, IsNullOrInRange};
 ghost use Rattle.data_file.specs.Answers.{Gives};
@@ -29,11 +31,18 @@ fn key(mode: Mode, column: &ColumnDef) -> &Text
     }
 }
 
-// The text under a name; where the name is absent or has null, the empty one.
-fn text_under<'a>(values: &'a PartitionValues, key: &Text) -> &'a [u8]
-    ensures { result.now ≡ spec.text_under values.now key.now }
+// What is given under a name.
+fn given_under<'a>(values: &'a PartitionValues, key: &Text) -> Option<&'a (Text, Option<Text>)>
+    ensures { option_copied result ≡ find (λ given. bytes_eq given.0 key.now) values.now }
 {
-    match values.as_slice().iter().find(|given| given.0 == *key) {
+    values.as_slice().iter().find(|given| given.0 == *key)
+}
+
+// The text that is given; without one, the empty text.
+fn given_text<'a>(given: Option<&'a (Text, Option<Text>)>) -> &'a [u8]
+    ensures { result.now ≡ spec.given_text (option_copied given.entry) }
+{
+    match given {
         Some((_, Some(text))) => text.as_bytes(),
         _ => &[],
     }
@@ -69,7 +78,11 @@ fn constant(
     if !column.partition {
         return Ok(None);
     }
-    match value_of(alloc, column, text_under(values, key(mode, column))) {
+    match value_of(
+        alloc,
+        column,
+        given_text(given_under(values, key(mode, column))),
+    ) {
         Ok(value) => Ok(Some(value)),
         Err(TextFault::BadText) => Err(PartFault::Partition { column: at }),
         Err(TextFault::Memory) => Err(PartFault::Memory),
@@ -90,7 +103,8 @@ pub(crate) fn constants(
 {
     let mut found = Items::new(alloc);
     for (at, column) in columns.schema.as_slice().iter().enumerate() {
-        found.push(constant(alloc, columns.mode, values, at, column)?)?;
+        let one = constant(alloc, columns.mode, values, at, column)?;
+        found.push(one)?;
     }
     Ok(found)
 }

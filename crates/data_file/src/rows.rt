@@ -2,7 +2,7 @@
 ghost use Rattle.std.specs.Prelude.{◌≡◌, length, All, IfOk, IfSome};
 ghost use Rattle.dm_types.specs.Ranges.{IsWellFormed};
 ghost use Rattle.parquet_file.specs.File.{opened};
-ghost use Rattle.data_file.specs.Answers.{Gives, HasRows};
+ghost use Rattle.data_file.specs.Answers.{Gives, HasConstants, HasRows, HasTypes};
 ghost use Rattle.data_file.specs.Room.{or_else};
 ghost use Rattle.data_file.specs.Rows.{seen, part_of as part_of_file, rows_of};
 ghost use Rattle.data_file.specs.Stored.{rows_in};
@@ -103,6 +103,8 @@ pub fn read_rows(
 ) -> Result<PartRows, PartFault>
     requires { All (λ column. IsWellFormed column.kind) columns.now.schema.now }
     ensures part { Gives seen (rows_of columns.now values.now bytes.now room.now) result }
+    ensures types { IfOk result (λ part. HasTypes columns.now.schema.now part.batch.columns) }
+    ensures constants { IfOk result (λ part. HasConstants columns.now.schema.now part.batch.rows part.batch.columns) }
     ensures ids { IfOk result (λ part. IfSome part.ids (HasRows part.batch.rows)) }
     ensures versions { IfOk result (λ part. IfSome part.versions (HasRows part.batch.rows)) }
     ensures kinds { IfOk result (λ part. IfSome part.kinds (HasRows part.batch.rows)) }

@@ -7,6 +7,7 @@ ghost use Rattle.dm_types.specs.Ranges.{IsWellFormed};
 ghost use Rattle.dm_types.specs.Then.{go};
 ghost use Rattle.parquet_pages.specs.Kept.{text_size as text_size_of};
 ghost use Rattle.data_file.specs.Answers.{Gives};
+ghost use Rattle.data_file.specs.Steps.{full_place};
 ghost use Rattle.data_file.specs.Stored as spec;
 ghost use Rattle.data_file.specs.Stored.{rows_in};
 
@@ -81,7 +82,10 @@ fn column_at(
     ensures rows { IfOk result (λ column. length column.values ≡ rows_in file.now) }
 {
     match sought.place {
-        PlaceChoice::Missing => Ok(repeated(alloc, sought.kind, &Value::Null, file.rows())?),
+        PlaceChoice::Missing => {
+            let column = repeated(alloc, sought.kind, &Value::Null, file.rows())?;
+            Ok(column)
+        }
         PlaceChoice::At(at) => leaf_column(alloc, file, sought, at, left),
         PlaceChoice::Partition | PlaceChoice::Wrong => Err(PartFault::Mismatch {
             column: sought.column,
@@ -106,6 +110,16 @@ pub(crate) fn stored(
     Ok((column, left - taken))
 }
 
+// Where a column is that takes no nulls, from where it would be if it took them.
+fn full(place: PlaceChoice) -> PlaceChoice
+    ensures { result ≡ full_place place }
+{
+    match place {
+        PlaceChoice::Missing => PlaceChoice::Wrong,
+        place => place,
+    }
+}
+
 /// A column that every mode finds by its name.
 pub(crate) fn named(
     file: &ParquetFile<'_>,
@@ -117,10 +131,8 @@ pub(crate) fn named(
     ensures sought { result ≡ spec.named column kind nullable file.now.footer.leaves name.now }
     ensures within { IsWithin file.now.footer.leaves result.place }
 {
-    let place = match find_named(name, file.leaves()) {
-        PlaceChoice::Missing if !nullable => PlaceChoice::Wrong,
-        place => place,
-    };
+    let place = find_named(name, file.leaves());
+    let place = if nullable { place } else { full(place) };
     Sought {
         column,
         kind,
@@ -141,10 +153,12 @@ pub(crate) fn materialized(
         (spec.materialized file.now column (option_copied name.entry) left) result }
     ensures rows { IfOk result (λ found. IfSome found.0 (λ column. length column.values ≡ rows_in file.now)) }
 {
-    let Some(name) = name else {
-        return Ok((None, left));
-    };
-    let sought = named(file, column, DataType::Long, true, name);
-    let (column, left) = stored(alloc, file, &sought, left)?;
-    Ok((Some(column), left))
+    match name {
+        None => Ok((None, left)),
+        Some(name) => {
+            let sought = named(file, column, DataType::Long, true, name);
+            let (column, left) = stored(alloc, file, &sought, left)?;
+            Ok((Some(column), left))
+        }
+    }
 }

@@ -32,7 +32,10 @@ fn table_column(
     ensures rows { IfOk result (λ found. length found.0.values ≡ rows_in file.now) }
 {
     match constant {
-        Some(value) => Ok((repeated(alloc, sought.kind, value, file.rows())?, left)),
+        Some(value) => {
+            let column = repeated(alloc, sought.kind, value, file.rows())?;
+            Ok((column, left))
+        }
         None => stored(alloc, file, sought, left),
     }
 }

@@ -359,7 +359,8 @@ fn schema_of(alloc: Global, columns: &[Column]) -> Result<TableSchema, AllocErro
 {
     let mut schema = TableSchema::new(alloc);
     for column in columns {
-        schema.push(column_of(alloc, column)?)?;
+        let one = column_of(alloc, column)?;
+        schema.push(one)?;
     }
     Ok(schema)
 }

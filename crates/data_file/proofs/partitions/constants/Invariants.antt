@@ -1,6 +1,6 @@
 use Rattle.std.proofs.Common.{◌≡◌, [], length, drop}
 use Rattle.data_file.specs.Partitions.{constants_from}
-use Rattle.data_file.proofs.Partitions.{Each}
+use Rattle.data_file.proofs.GivenValues.{Each}
 use Rattle.data_file.proofs.partitions.constants.Given as goal
 
 abbrev pub invariant-loop-at : goal.invariant-loop-at

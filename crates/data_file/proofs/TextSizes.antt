@@ -4,7 +4,7 @@ use Rattle.std.specs.Prelude.{All}
 use Rattle.std.specs.List.{AllByRecursion, sum_by}
 use Rattle.std.proofs.lemmas.List.{take_all, take_more}
 use Rattle.std.proofs.lemmas.List.Elements.{recursion_from_All}
-use Rattle.std.proofs.lemmas.List.Sums.{sum_by-append, sum_by-take-le}
+use Rattle.std.proofs.lemmas.List.Sums.{sum_by-cons, sum_by-take-le, sum_by_push}
 use Rattle.std.proofs.lemmas.Option.{get_or_from_slice_get, slice_get_within}
 use Rattle.column_vectors.specs.Cells.{Cells}
 use Rattle.column_vectors.specs.Lanes.{IsServed, cells_of, serves}
@@ -20,8 +20,8 @@ use Rattle.parquet_pages.specs.Kept.{text_bytes, text_size}
 -- one row more
 pub size-more : (values : List Value) (row : ℕ) (v : Value) → slice_get values row ≡ Some v → text_size (take (row + 1) values) ≡ text_size (take row values) + text_bytes v
 size-more values row v is =
-    ap text_size (take_more values row v (slice_get_within values row v is)) ∙ sum_by-append text_bytes (take row values) (get_or values row v ∷ [])
-    ∙ ap (λ (x : Value). text_size (take row values) + text_size (x ∷ [])) (get_or_from_slice_get values row v v is) ∙ omega arith
+    ap text_size (take_more values row v (slice_get_within values row v is)) ∙ sum_by_push text_bytes (take row values) (get_or values row v)
+    ∙ ap (λ (x : Value). text_size (take row values) + text_bytes x) (get_or_from_slice_get values row v v is)
 
 -- all rows together
 pub size-le : (values : List Value) (row : ℕ) → text_size (take row values) ≤ text_size values
@@ -44,7 +44,7 @@ all_free k [] no_text no_bytes of = refl
 all_free k (v ∷ more) no_text no_bytes of =
     let here : text_bytes v ≡ 0 = text_free k v no_text no_bytes of.0 in
     let later : text_size more ≡ 0 = all_free k more no_text no_bytes of.1 in
-    omega (arith, here, later)
+    sum_by-cons text_bytes v more ∙ omega (arith, here, later)
 
 text_lane : (it : LaneColumn) → ((t : Cells) → it ≡ lane.Text t → ⊥) → serves it kind.Str ≡ true → ⊥
 text_lane (lane.Text t) other served = other t refl

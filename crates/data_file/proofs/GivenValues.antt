@@ -11,10 +11,11 @@ use Rattle.dm_text.specs.Reading.{text_value}
 use Rattle.dm_types.specs.Ranges.{IsNullOrInRange}
 use Rattle.dm_types.specs.Then.{go}
 use Rattle.dm_types.specs.declared.value.Value.{Value}
-use Rattle.data_file.specs.Partitions.{Given, constant_of, constants_from, printed_size, text_behind, value_of}
-use Rattle.data_file.specs.Room.{Answer, less}
+use Rattle.data_file.specs.Partitions.{Given, constant_of, constants_from, key_of, printed_size, text_behind, text_under, value_of}
+use Rattle.data_file.specs.Room.{Answer, less, or_else}
 use Rattle.data_file.specs.Steps.{AreConstants}
 use Rattle.data_file.specs.declared.fault.PartCounted.TheVariants as counted
+use Rattle.data_file.specs.declared.fault.PartFault.TheVariants as fault
 use Rattle.data_file.proofs.Begun.{next_of, none_left}
 
 -- the value of a text that isn't empty
@@ -78,3 +79,20 @@ each-more columns found at column one counted inside is range each = λ k c v he
 
 pub each-none : (columns : List ColumnDef) → Each columns []
 each-none columns = λ k c v here told. absurd (omega (arith, slice_get_within {A = Option Value} [] k (Some v) told))
+
+-- ---- one value
+
+parted : (known : Option Value) (at : ℕ) (column : ColumnDef) (mode : Mode) (values : Given) (text : List ℕ) → column.partition ≡ true → text ≡ text_under values (key_of mode column) → value_of column text ≡ known
+    → constant_of mode values at column ≡ go (or_else (fault.Partition at) known) (λ v. Ok (Some v))
+parted known at column mode values text parted_is same is =
+    ap (λ (b : Bool). cond b (go (or_else (fault.Partition at) (value_of column (text_under values (key_of mode column)))) (λ v. Ok (Some v))) (Ok None)) parted_is
+    ∙ ap (λ (t : List ℕ). go (or_else (fault.Partition at) (value_of column t)) (λ v. Ok (Some v))) (sym same)
+    ∙ ap (λ (o : Option Value). go (or_else (fault.Partition at) o) (λ v. Ok (Some v))) is
+
+pub constant-ok : (at : ℕ) (column : ColumnDef) (mode : Mode) (values : Given) (text : List ℕ) (v : Value) → column.partition ≡ true → text ≡ text_under values (key_of mode column) → value_of column text ≡ Some v
+    → constant_of mode values at column ≡ Ok (Some v)
+constant-ok at column mode values text v parted_is same is = parted (Some v) at column mode values text parted_is same is
+
+pub constant-bad : (at : ℕ) (column : ColumnDef) (mode : Mode) (values : Given) (text : List ℕ) → column.partition ≡ true → text ≡ text_under values (key_of mode column) → value_of column text ≡ None
+    → constant_of mode values at column ≡ Err (fault.Partition at)
+constant-bad at column mode values text parted_is same is = parted None at column mode values text parted_is same is
