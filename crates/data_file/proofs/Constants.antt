@@ -1,6 +1,6 @@
 -- A partition column has one value in all rows.
-use Rattle.std.proofs.Common.{◌≡◌, ℕ, zero, suc, ◌+◌, ◌<◌, Bool, true, false, cond, List, [], ◌∷◌, ◌++◌, Option, Some, None, Result, Ok, Err, length, get_or, replicate, slice_get, refl, sym, ap, ◌∙◌, subst, length-append, arith}
-use Rattle.std.specs.Prelude.{IfOk, IsTrue, unwrap_or}
+use Rattle.std.proofs.Common.{◌≡◌, ℕ, zero, suc, ◌+◌, Bool, true, false, cond, List, [], ◌∷◌, ◌++◌, Option, Some, None, Ok, length, replicate, slice_get, refl, sym, ap, ◌∙◌, subst, length-append, arith}
+use Rattle.std.specs.Prelude.{unwrap_or}
 use Rattle.std.proofs.Math.ListN.{get_or-append}
 use Rattle.std.proofs.lemmas.List.{get_or_push}
 use Rattle.std.proofs.lemmas.Option.{get_or_from_slice_get, slice_get-get_or, slice_get_within}
@@ -10,12 +10,10 @@ use Rattle.delta_schema.specs.declared.schema.ColumnDef.{ColumnDef}
 use Rattle.dm_types.specs.Then.{go}
 use Rattle.dm_types.specs.declared.value.Value.{Value}
 use Rattle.parquet_file.specs.File.{Opened}
-use Rattle.data_file.specs.Answers.{HasConstants}
 use Rattle.data_file.specs.Partitions.{Given, constant_of, constants_from, key_of, text_under, value_of}
 use Rattle.data_file.specs.Room.{Answer, or_else}
 use Rattle.data_file.specs.Stored.{rows_in}
 use Rattle.data_file.specs.Table.{columns_from, constant_at, sought_of, table_column}
-use Rattle.data_file.specs.declared.fault.PartFault.{PartFault}
 use Rattle.data_file.specs.declared.fault.PartFault.TheVariants as fault
 use Rattle.data_file.proofs.Begun.{went}
 

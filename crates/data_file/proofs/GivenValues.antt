@@ -1,5 +1,5 @@
 -- Partition values, column after column.
-use Rattle.std.proofs.Common.{◌≡◌, ℕ, suc, ◌+◌, ◌*◌, ◌<◌, ◌≤◌, ◌⊎◌, inl, inr, Bool, true, false, cond, List, [], ◌∷◌, ◌++◌, Option, Some, None, Result, Ok, Err, length, get_or, drop, slice_get, refl, sym, ap, ◌∙◌, subst, length-append, arith}
+use Rattle.std.proofs.Common.{◌≡◌, ℕ, ◌+◌, ◌*◌, ◌<◌, ◌≤◌, ◌⊎◌, inl, inr, Bool, true, cond, List, [], ◌∷◌, ◌++◌, Option, Some, None, Ok, Err, length, get_or, drop, slice_get, refl, sym, ap, ◌∙◌, subst, length-append, arith}
 use Rattle.std.specs.Prelude.{IfSome}
 use Rattle.std.proofs.Math.ListN.{get_or-append}
 use Rattle.std.proofs.Math.Nat.{eq-or-lt_of_le}
@@ -12,8 +12,7 @@ use Rattle.dm_types.specs.Ranges.{IsNullOrInRange}
 use Rattle.dm_types.specs.Then.{go}
 use Rattle.dm_types.specs.declared.value.Value.{Value}
 use Rattle.data_file.specs.Partitions.{Given, constant_of, constants_from, key_of, printed_size, text_behind, text_under, value_of}
-use Rattle.data_file.specs.Room.{Answer, less, or_else}
-use Rattle.data_file.specs.Steps.{AreConstants}
+use Rattle.data_file.specs.Room.{less, or_else}
 use Rattle.data_file.specs.declared.fault.PartCounted.TheVariants as counted
 use Rattle.data_file.specs.declared.fault.PartFault.TheVariants as fault
 use Rattle.data_file.proofs.Begun.{next_of, none_left}

@@ -5,7 +5,6 @@ mod GivenValues
 mod KindTests
 mod LeavesRead
 mod Named
-mod Opened
 mod Steps
 mod TextSizes
 mod Types

@@ -1,39 +1,17 @@
 -- A column that every mode finds by its name.
-use Rattle.std.proofs.Common.{◌≡◌, ℕ, Bool, true, false, cond, List, [], ◌∷◌, Option, Some, None, Ok, Err, refl, sym, ap, ◌∙◌, subst}
+use Rattle.std.proofs.Common.{◌≡◌, ℕ, Bool, true, false, List, Option, Some, None, Ok, Err, refl}
 use Rattle.std.specs.List.{list_all}
-use Rattle.column_mapping.specs.Places.{IsWithin, choice_of}
-use Rattle.column_mapping.specs.declared.places.PlaceChoice.{PlaceChoice}
-use Rattle.column_mapping.specs.declared.places.PlaceChoice.TheVariants as choice
-use Rattle.parquet_meta.specs.declared.metadata.LeafSchema.{LeafSchema}
 use Rattle.column_vectors.specs.Cells.{Cells}
 use Rattle.dm_types.specs.Then.{go}
 use Rattle.dm_types.specs.declared.value.DataType.TheVariants as kind
 use Rattle.parquet_file.specs.File.{Opened}
 use Rattle.data_file.specs.Kinds.{checked, is_kind, kinds}
 use Rattle.data_file.specs.Room.{Answer}
-use Rattle.data_file.specs.Steps.{full_place}
 use Rattle.data_file.specs.Stored.{materialized, named, stored}
 use Rattle.data_file.specs.declared.columns.TheConstants.{CHANGE_TYPE}
 use Rattle.data_file.specs.declared.fault.PartColumn.{PartColumn}
 use Rattle.data_file.specs.declared.fault.PartColumn.TheVariants as part
 use Rattle.data_file.specs.declared.fault.PartFault.TheVariants as fault
-
-one_full : (top : Bool) (at : ℕ) → full_place (cond top (choice.At at) choice.Wrong) ≡ cond top (choice.At at) choice.Wrong
-one_full true at = refl
-one_full false at = refl
-
-pub full_is : (all : List (ℕ × LeafSchema)) → full_place (choice_of true all) ≡ choice_of false all
-full_is [] = refl
-full_is (one ∷ []) = one_full one.1.top one.0
-full_is (first ∷ second ∷ more) = refl
-
-pub full-within : (leaves : List LeafSchema) (place : PlaceChoice) → IsWithin leaves place → IsWithin leaves (full_place place)
-full-within leaves choice.Missing within = tt
-full-within leaves choice.Partition within = tt
-full-within leaves (choice.At at) within = within
-full-within leaves choice.Wrong within = tt
-
--- ---- what is asked for
 
 pub materialized-none : (it : Opened) (column : PartColumn) (left : ℕ) → materialized it column None left ≡ Ok (None, left)
 unfolding materialized

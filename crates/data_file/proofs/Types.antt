@@ -1,12 +1,11 @@
 -- The columns of a file's rows are of the types of the schema.
-use Rattle.std.proofs.Common.{◌≡◌, ℕ, ◌+◌, List, [], ◌∷◌, ◌++◌, Option, Some, None, Result, Ok, Err, length, map, refl, sym, ap, ◌∙◌, subst, append_assoc, replicate, slice_get, zero-add, ◌*◌}
+use Rattle.std.proofs.Common.{◌≡◌, ℕ, List, [], ◌∷◌, ◌++◌, Option, Some, None, Result, Ok, Err, length, map, refl, sym, ap, ◌∙◌, subst, append_assoc, replicate, slice_get, zero-add, ◌*◌}
 use Rattle.std.specs.Prelude.{◌-◌, IfOk}
 use Rattle.std.specs.Option.{option_copied}
 use Rattle.std.proofs.lemmas.List.{append-nil, map-append}
 use Rattle.column_mapping.specs.declared.mode.Mode.{Mode}
 use Rattle.column_vectors.specs.Cells.{Cells}
 use Rattle.delta_schema.specs.declared.schema.ColumnDef.{ColumnDef}
-use Rattle.dm_types.specs.Then.{go}
 use Rattle.dm_types.specs.declared.value.DataType.{DataType}
 use Rattle.dm_types.specs.declared.value.Value.{Value}
 use Rattle.parquet_file.specs.File.{Opened, opened}

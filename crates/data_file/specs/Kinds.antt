@@ -1,5 +1,5 @@
 -- The kinds of changes of a change file (PROTOCOL.md, "Change Data Files").
-use Rattle.std.specs.Prelude.{ℕ, Bool, true, false, ◌||◌, List, codes, Option, None, Ok, Err, if◌then◌else◌}
+use Rattle.std.specs.Prelude.{ℕ, Bool, false, ◌||◌, List, codes, Option, None, Ok, Err, if◌then◌else◌}
 use Rattle.std.specs.List.{list_all}
 use Rattle.std.specs.Str.{bytes_eq}
 use Rattle.column_vectors.specs.Cells.{Cells}

@@ -1,5 +1,5 @@
 -- The values of a file's partition columns (PROTOCOL.md, "Partition Value Serialization").
-use Rattle.std.specs.Prelude.{ℕ, ◌*◌, Bool, List, [], ◌∷◌, ◌++◌, length, find, Option, Some, None, unwrap_or, Ok, if◌then◌else◌}
+use Rattle.std.specs.Prelude.{ℕ, ◌*◌, List, [], ◌∷◌, ◌++◌, length, find, Option, Some, None, unwrap_or, Ok, if◌then◌else◌}
 use Rattle.std.specs.Str.{bytes_eq}
 use Rattle.column_mapping.specs.declared.mode.Mode.{Mode}
 use Rattle.column_mapping.specs.declared.mode.Mode.TheVariants as mode

@@ -59,7 +59,8 @@ fn leaf_column(
 ) -> Result<AnyColumn, PartFault>
     requires kind { IsWellFormed sought.now.kind }
     requires leaf { at < length file.now.footer.leaves }
-    ensures column { Gives (λ column. column) (spec.cells sought.now.kind (spec.leaf_values file.now left sought.now at)) result }
+    ensures column { Gives (λ column. column)
+        (spec.cells sought.now.kind (spec.leaf_values file.now left sought.now at)) result }
     ensures rows { IfOk result (λ column. length column.values ≡ rows_in file.now) }
 {
     match file.column(alloc, at, &sought.kind, sought.nullable, left) {

@@ -1,9 +1,8 @@
 -- A column that is read has a value for each row of the file.
-use Rattle.std.proofs.Common.{◌≡◌, ℕ, ◌+◌, ◌<◌, ◌≤◌, ◌⊎◌, inl, inr, Bool, true, false, cond, List, [], ◌∷◌, ◌++◌, Option, Some, None, Result, Ok, Err, length, ℤ, pos, negsuc, slice_get, get_or, refl, sym, ap, ◌∙◌, subst, length-append, arith, rules}
+use Rattle.std.proofs.Common.{◌≡◌, ℕ, ◌+◌, ◌<◌, ◌≤◌, ◌⊎◌, inl, inr, Bool, true, false, cond, List, [], ◌∷◌, ◌++◌, Some, None, Result, Ok, Err, length, ℤ, pos, negsuc, slice_get, get_or, refl, sym, ap, ◌∙◌, length-append, arith}
 use Rattle.std.specs.Prelude.{IfOk, nat_le, not}
 use Rattle.std.specs.List.{list_all}
 use Rattle.std.specs.Int.Signed.{le_z}
-use Rattle.std.specs.Ordering.{int_eq}
 use Rattle.std.specs.Cmp.{signed_Decides}
 use Rattle.std.proofs.lemmas.Bool.{and_parts, eqb-true}
 use Rattle.std.proofs.lemmas.Int.{ints}
@@ -17,7 +16,6 @@ use Rattle.parquet_meta.specs.declared.metadata.ChunkMeta.{ChunkMeta}
 use Rattle.parquet_meta.specs.declared.metadata.Footer.{Footer}
 use Rattle.parquet_meta.specs.declared.metadata.LeafSchema.{LeafSchema}
 use Rattle.parquet_meta.specs.declared.metadata.RowGroup.{RowGroup}
-use Rattle.parquet_pages.specs.Answers.{Gives}
 use Rattle.parquet_pages.specs.Chunk.{chunk_values, within}
 use Rattle.parquet_pages.specs.Kept.{text_size}
 use Rattle.parquet_pages.specs.Pages.{Answer, Wanted}
@@ -25,7 +23,7 @@ use Rattle.parquet_pages.specs.Types.{fits}
 use Rattle.parquet_pages.specs.declared.fault.FileFault.{FileFault}
 use Rattle.parquet_pages.specs.declared.fault.FileFault.TheVariants as fault
 use Rattle.parquet_file.proofs.GroupsRead.{cells, column_says}
-use Rattle.parquet_file.specs.File.{GroupChunk, Opened, chunk_in, chunks_of, chunks_values, column_of, counted, leaf_values}
+use Rattle.parquet_file.specs.File.{GroupChunk, Opened, chunks_of, chunks_values, column_of, leaf_values}
 
 -- a chunk whose values are read has one for each of its rows
 abbrev pub ChunksWhole : Type 0

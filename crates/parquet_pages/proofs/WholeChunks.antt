@@ -1,7 +1,6 @@
 -- A chunk that is read has a value for each of its rows.
 use Rattle.std.proofs.Common.{◌≡◌, ℕ, zero, suc, ◌+◌, ◌-◌, ◌^◌, ◌<◌, ◌≤◌, ℤ, pos, Bool, true, false, cond, List, [], ◌∷◌, ◌++◌, length, map, replicate, Option, Some, None, option_map, Ok, Err, eqb, refl, sym, ap, ◌∙◌, subst, length-append, arith}
 use Rattle.std.specs.Prelude.{All, int_le, unsigned_abs, not, ⊤, ◌&&◌}
-use Rattle.std.specs.List.{range_with_len}
 use Rattle.std.specs.Ordering.{int_eq}
 use Rattle.std.proofs.lemmas.Bool.{and_parts, eqb-true}
 use Rattle.std.proofs.lemmas.Int.{ints}
@@ -19,7 +18,7 @@ use Rattle.parquet_meta.specs.declared.numbers.TheConstants.{DATA_PAGE, INDEX_PA
 use Rattle.plain_values.specs.Meaning.{bytes_at}
 use Rattle.parquet_pages.specs.Chunk.{chunk_of, chunk_values}
 use Rattle.parquet_pages.specs.Entries.{Page, all_told, entries, entry_at, full}
-use Rattle.parquet_pages.specs.Pages.{Answer, Cut, State, Wanted, begun, column_values, data_page, data_role, dictionary_page, dictionary_role, entries_of, entry_value, is_known, levels_at, or_else, page_at, page_entries, page_values, pages_at, rle_levels, role_of, take_page, told_levels}
+use Rattle.parquet_pages.specs.Pages.{Answer, State, Wanted, begun, column_values, data_page, data_role, dictionary_page, dictionary_role, entries_of, entry_value, is_known, levels_at, or_else, page_at, page_entries, page_values, pages_at, rle_levels, role_of, take_page, told_levels}
 use Rattle.parquet_pages.specs.Physical.{Physical}
 use Rattle.parquet_pages.specs.declared.fault.FileFault.{FileFault}
 use Rattle.parquet_pages.specs.declared.fault.FileFault.TheVariants as fault

@@ -4,7 +4,7 @@ use Rattle.std.specs.Option.{option_copied}
 use Rattle.dm_types.specs.declared.value.Value.{Value}
 use Rattle.dm_types.specs.declared.value.Value.TheVariants as value
 use Rattle.data_file.specs.Kinds.{is_kind}
-use Rattle.data_file.proofs.KindTests.{all-last, all-more, not_all}
+use Rattle.data_file.proofs.KindTests.{all-more, not_all}
 use Rattle.data_file.proofs.kinds.are_kinds.Goals as goal
 
 pub returns-then-not-is_kind_there : goal.returns-then-not-is_kind_there

@@ -1,5 +1,4 @@
 use Rattle.std.proofs.Common.{◌≡◌, ◌∙◌, ℕ, List, true, ap, rules}
-use Rattle.delta_schema.specs.declared.schema.ColumnDef.{ColumnDef}
 use Rattle.data_file.specs.Partitions.{given_text, key_of, text_under}
 use Rattle.data_file.proofs.GivenValues.{constant-bad, constant-ok}
 use Rattle.data_file.proofs.partitions.constant.Goals as goal

@@ -1,4 +1,4 @@
-use Rattle.std.proofs.Common.{◌≡◌, ◌∙◌, ◌+◌, List, [], ◌∷◌, ◌++◌, Option, drop, length, length-append, rules, sym, ap, subst}
+use Rattle.std.proofs.Common.{◌∙◌, ◌+◌, List, [], ◌∷◌, ◌++◌, Option, drop, length, length-append, rules, sym, ap, subst}
 use Rattle.delta_schema.specs.declared.schema.ColumnDef.{ColumnDef}
 use Rattle.dm_types.specs.declared.value.Value.{Value}
 use Rattle.data_file.specs.Partitions.{constant_of, constants_from}

@@ -1,7 +1,7 @@
-use Rattle.std.proofs.Common.{◌≡◌, ◌∙◌, ◌+◌, ◌*◌, ℕ, List, Option, drop, rules, sym, ap}
+use Rattle.std.proofs.Common.{◌∙◌, ◌+◌, ◌*◌, ℕ, List, Option, drop, rules, sym, ap}
 use Rattle.dm_types.specs.Then.{go}
 use Rattle.dm_types.specs.declared.value.Value.{Value}
-use Rattle.data_file.specs.Partitions.{printed_size, text_behind}
+use Rattle.data_file.specs.Partitions.{text_behind}
 use Rattle.data_file.specs.Room.{less}
 use Rattle.data_file.specs.declared.fault.PartCounted.TheVariants as counted
 use Rattle.data_file.proofs.Begun.{fails, goes_on}

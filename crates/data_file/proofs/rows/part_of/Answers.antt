@@ -1,4 +1,4 @@
-use Rattle.std.proofs.Common.{◌≡◌, ◌∙◌, ℕ, List, Option, Ok, sym, ap, rules}
+use Rattle.std.proofs.Common.{◌∙◌, ℕ, List, Option, Ok, sym, ap, rules}
 use Rattle.std.specs.Option.{option_copied}
 use Rattle.column_vectors.specs.Cells.{Cells}
 use Rattle.data_file.specs.Kinds.{kinds}

@@ -1,4 +1,4 @@
-use Rattle.std.proofs.Common.{◌≡◌, ◌∙◌, ◌*◌, ℕ, List, sym, ap, rules}
+use Rattle.std.proofs.Common.{◌∙◌, ◌*◌, ℕ, List, sym, ap, rules}
 use Rattle.column_vectors.specs.Cells.{Cells}
 use Rattle.column_vectors.specs.declared.batch.Batch.{Batch}
 use Rattle.dm_types.specs.Then.{go}

@@ -1,4 +1,4 @@
-use Rattle.std.proofs.Common.{◌≡◌, ◌∙◌, ℕ, List, Option, sym, ap, rules}
+use Rattle.std.proofs.Common.{◌∙◌, ℕ, Option, sym, ap, rules}
 use Rattle.std.specs.Option.{option_copied}
 use Rattle.column_vectors.specs.Cells.{Cells}
 use Rattle.dm_types.specs.Then.{go}

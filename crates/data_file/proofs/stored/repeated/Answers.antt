@@ -1,4 +1,4 @@
-use Rattle.std.proofs.Common.{◌∙◌, sym, ap, subst}
+use Rattle.std.proofs.Common.{sym, ap, subst}
 use Rattle.column_vectors.specs.Cells.{Cells}
 use Rattle.dm_types.specs.Lanes.{IsNullOrOf}
 use Rattle.dm_types.specs.declared.value.DataType.{DataType}

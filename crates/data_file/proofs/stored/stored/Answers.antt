@@ -1,4 +1,4 @@
-use Rattle.std.proofs.Common.{◌≡◌, ◌∙◌, ◌-◌, ℕ, Ok, arith, rules, sym, ap}
+use Rattle.std.proofs.Common.{◌∙◌, ◌-◌, ℕ, Ok, arith, rules, sym, ap}
 use Rattle.column_vectors.specs.Cells.{Cells}
 use Rattle.data_file.specs.Room.{Answer}
 use Rattle.data_file.specs.Stored.{cells, stored, values_at}

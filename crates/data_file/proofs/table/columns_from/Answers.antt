@@ -1,4 +1,4 @@
-use Rattle.std.proofs.Common.{◌≡◌, ◌∙◌, ◌+◌, ℕ, List, [], ◌∷◌, ◌++◌, drop, length, length-append, map, sym, ap, rules}
+use Rattle.std.proofs.Common.{◌∙◌, ◌+◌, ℕ, List, [], ◌∷◌, ◌++◌, drop, length, length-append, map, sym, ap, rules}
 use Rattle.column_mapping.specs.Places.{place_of}
 use Rattle.column_vectors.specs.Cells.{Cells}
 use Rattle.column_vectors.specs.declared.batch.Batch.{Batch}

@@ -1,10 +1,8 @@
-use Rattle.std.proofs.Common.{◌≡◌, ◌∙◌, ℕ, List, [], Option, sym, ap, rules}
-use Rattle.column_vectors.specs.Cells.{Cells}
+use Rattle.std.proofs.Common.{◌∙◌, ℕ, List, [], Option, sym, ap, rules}
 use Rattle.column_vectors.specs.declared.batch.Batch.{Batch}
 use Rattle.dm_types.specs.Then.{go}
 use Rattle.dm_types.specs.declared.value.Value.{Value}
 use Rattle.data_file.specs.Partitions.{constants_from, text_behind}
-use Rattle.data_file.specs.Stored.{rows_in}
 use Rattle.data_file.specs.Table.{columns_from, table_of}
 use Rattle.data_file.proofs.Begun.{fails, gives_same, goes_on}
 use Rattle.data_file.proofs.LeavesRead.{rows-are}
