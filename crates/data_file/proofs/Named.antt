@@ -5,13 +5,14 @@ use Rattle.column_vectors.specs.Cells.{Cells}
 use Rattle.dm_types.specs.Then.{go}
 use Rattle.dm_types.specs.declared.value.DataType.TheVariants as kind
 use Rattle.parquet_file.specs.File.{Opened}
-use Rattle.data_file.specs.Kinds.{checked, is_kind, kinds}
+use Rattle.data_file.specs.Kinds.{checked, is_kind, kinds, with_nulls}
 use Rattle.data_file.specs.Room.{Answer}
 use Rattle.data_file.specs.Stored.{materialized, named, stored}
 use Rattle.data_file.specs.declared.columns.TheConstants.{CHANGE_TYPE}
 use Rattle.data_file.specs.declared.fault.PartColumn.{PartColumn}
 use Rattle.data_file.specs.declared.fault.PartColumn.TheVariants as part
 use Rattle.data_file.specs.declared.fault.PartFault.TheVariants as fault
+use Rattle.data_file.specs.declared.stored.Sought.{Sought}
 
 pub materialized-none : (it : Opened) (column : PartColumn) (left : ℕ) → materialized it column None left ≡ Ok (None, left)
 unfolding materialized
@@ -27,6 +28,10 @@ materialized-some it column name left = refl
 abbrev pub shown_checked : Cells × ℕ → Answer (Option Cells × ℕ)
 shown_checked found = go (checked found) shown
 
+-- the kinds of changes, as they are sought
+abbrev pub kinds_sought : Opened → List ℕ → Sought
+kinds_sought it name = with_nulls (named part.ChangeType kind.Str false it.footer.leaves name)
+
 in_turn : (known : Answer (Cells × ℕ)) → go (go known checked) shown ≡ go known shown_checked
 in_turn (Ok found) = refl
 in_turn (Err f) = refl
@@ -35,9 +40,9 @@ pub kinds-none : (it : Opened) (wanted : Bool) (left : ℕ) → wanted ≡ false
 unfolding kinds
 kinds-none it wanted left unwanted = rw unwanted refl
 
-pub kinds-some : (it : Opened) (wanted : Bool) (left : ℕ) → wanted ≡ true → kinds it wanted left ≡ go (stored it (named part.ChangeType kind.Str false it.footer.leaves CHANGE_TYPE.now) left) shown_checked
+pub kinds-some : (it : Opened) (wanted : Bool) (left : ℕ) → wanted ≡ true → kinds it wanted left ≡ go (stored it (kinds_sought it CHANGE_TYPE.now) left) shown_checked
 unfolding kinds
-kinds-some it wanted left asked_for = rw asked_for (in_turn (stored it (named part.ChangeType kind.Str false it.footer.leaves CHANGE_TYPE.now) left))
+kinds-some it wanted left asked_for = rw asked_for (in_turn (stored it (kinds_sought it CHANGE_TYPE.now) left))
 
 pub checked-good : (found : Cells × ℕ) → list_all is_kind found.0.values ≡ true → shown_checked found ≡ Ok (Some found.0, found.1)
 checked-good found good = rw good refl

@@ -11,7 +11,7 @@ ghost use Rattle.data_file.specs.Stored.{rows_in};
 
 use crate::columns::CHANGE_TYPE;
 use crate::fault::{PartColumn, PartFault};
-use crate::stored::{named, stored};
+use crate::stored::{Sought, named, stored};
 use column_vectors::{AnyColumn, Column, LaneColumn};
 use dm_types::{DataType, LaneText, Text};
 use parquet_file::ParquetFile;
@@ -60,6 +60,18 @@ fn has_kinds(column: &AnyColumn) -> bool
     }
 }
 
+// A column whose nulls are looked at behind its text.
+fn with_nulls(sought: Sought) -> Sought
+    ensures { result ≡ spec.with_nulls sought }
+{
+    Sought {
+        column: sought.column,
+        kind: sought.kind,
+        nullable: true,
+        place: sought.place,
+    }
+}
+
 /// The kinds of changes, where they are asked for, and the room for text behind them.
 pub(crate) fn kinds(
     alloc: Global,
@@ -74,7 +86,7 @@ pub(crate) fn kinds(
         return Ok((None, left));
     }
     let name = Text::from_str(alloc, CHANGE_TYPE)?;
-    let sought = named(file, PartColumn::ChangeType, DataType::Str, false, &name);
+    let sought = with_nulls(named(file, PartColumn::ChangeType, DataType::Str, false, &name));
     let (column, left) = stored(alloc, file, &sought, left)?;
     if !has_kinds(&column) {
         return Err(PartFault::Range {

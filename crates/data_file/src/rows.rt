@@ -90,7 +90,7 @@ fn part_of(
 ///   materialized row ids, the materialized commit versions and the kinds of changes: Mismatch where
 ///   the file doesn't hold it, and what `ParquetFile::column` has, its TextLimit being TooLarge
 ///   TextBytes over all columns so far;
-/// - Range for `_change_type` where a text is none of the four kinds.
+/// - Range for `_change_type` where a text is none of the four kinds, or is null.
 ///
 /// A nullable column that no element carries is null in each row, and takes no text. The bytes are
 /// lent, and gone through once; nothing of so many rows is built before the cells are counted.
