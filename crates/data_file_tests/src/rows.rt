@@ -415,11 +415,12 @@ fn told(alloc: Global, case: &Case) -> Result<String, AllocError> {
     let values = values_of(alloc, case.values)?;
     let ids = text_of(alloc, case.tracked.0)?;
     let versions = text_of(alloc, case.tracked.1)?;
+    let (ids_name, versions_name) = (ids.as_ref(), versions.as_ref());
     let columns = Columns {
         schema: &schema,
         mode: case.mode,
-        ids: ids.as_ref(),
-        versions: versions.as_ref(),
+        ids: ids_name,
+        versions: versions_name,
         change: case.change,
     };
     let room = Room {
