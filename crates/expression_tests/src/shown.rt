@@ -98,16 +98,15 @@ fn show_one(name: &[u8], tree: &TypedExpr, out: &mut Vec<u8>) -> Result<(), Allo
 }
 
 #[cycle(show)]
-fn show_two(
-    name: &[u8],
-    left: &TypedExpr,
-    right: &TypedExpr,
-    out: &mut Vec<u8>,
-) -> Result<(), AllocError> {
+fn show_first(name: &[u8], tree: &TypedExpr, out: &mut Vec<u8>) -> Result<(), AllocError> {
     out.extend_from_slice(name)?;
-    show(left, out)?;
-    put(b';', out)?;
-    show(right, out)?;
+    show(tree, out)?;
+    put(b';', out)
+}
+
+#[cycle(show)]
+fn show_last(tree: &TypedExpr, out: &mut Vec<u8>) -> Result<(), AllocError> {
+    show(tree, out)?;
     put(b']', out)
 }
 
@@ -129,15 +128,31 @@ pub fn show(tree: &TypedExpr, out: &mut Vec<u8>) -> Result<(), AllocError> {
             left,
             right,
             ..
-        } => show_two(op_name(*op), left.get(), right.get(), out),
-        TypedExpr::SameAs { left, right } => show_two(b"same[", left.get(), right.get(), out),
-        TypedExpr::And { left, right } => show_two(b"and[", left.get(), right.get(), out),
-        TypedExpr::Or { left, right } => show_two(b"or[", left.get(), right.get(), out),
-        TypedExpr::Concat { left, right } => show_two(b"concat[", left.get(), right.get(), out),
+        } => {
+            show_first(op_name(*op), left.get(), out)?;
+            show_last(right.get(), out)
+        }
+        TypedExpr::SameAs { left, right } => {
+            show_first(b"same[", left.get(), out)?;
+            show_last(right.get(), out)
+        }
+        TypedExpr::And { left, right } => {
+            show_first(b"and[", left.get(), out)?;
+            show_last(right.get(), out)
+        }
+        TypedExpr::Or { left, right } => {
+            show_first(b"or[", left.get(), out)?;
+            show_last(right.get(), out)
+        }
+        TypedExpr::Concat { left, right } => {
+            show_first(b"concat[", left.get(), out)?;
+            show_last(right.get(), out)
+        }
         TypedExpr::Is { truth, operand } => show_one(truth_name(*truth), operand.get(), out),
         TypedExpr::Between { operand, low, high } => {
             show_one(b"between[", operand.get(), out)?;
-            show_two(b"[", low.get(), high.get(), out)
+            show_first(b"[", low.get(), out)?;
+            show_last(high.get(), out)
         }
         TypedExpr::In { operand, items } => {
             show_one(b"in[", operand.get(), out)?;

@@ -129,8 +129,14 @@ fn push_word(
     }
 }
 
+/// A piece of an expression's text.
+type Piece = &'static [u8];
+
+/// What stands before, between and behind two operands.
+type Form = (Piece, Piece, Piece);
+
 /// The parts, one behind the other.
-fn joined(alloc: Global, parts: &[&[u8]]) -> Result<Vec<u8>, AllocError> {
+fn joined(alloc: Global, parts: &[Piece]) -> Result<Vec<u8>, AllocError> {
     let mut text = Vec::new(alloc);
     for part in parts {
         text.extend_from_slice(*part)?;
@@ -139,12 +145,7 @@ fn joined(alloc: Global, parts: &[&[u8]]) -> Result<Vec<u8>, AllocError> {
 }
 
 /// The words of a left operand beside each right one.
-fn line_of(
-    alloc: Global,
-    scope: &Scope,
-    form: (&[u8], &[u8], &[u8]),
-    left: &[u8],
-) -> Result<Vec<u8>, AllocError> {
+fn line_of(alloc: Global, scope: &Scope, form: Form, left: Piece) -> Result<Vec<u8>, AllocError> {
     let (before, between, behind) = form;
     let mut out = Vec::new(alloc);
     for right in OPERANDS {
@@ -158,11 +159,7 @@ fn line_of(
 }
 
 /// The first line of a table that isn't what the form gives.
-fn first_wrong(
-    alloc: Global,
-    form: (&[u8], &[u8], &[u8]),
-    table: &[&[u8]],
-) -> Result<Option<usize>, AllocError> {
+fn first_wrong(alloc: Global, form: Form, table: &[Piece]) -> Result<Option<usize>, AllocError> {
     let scope = one_side(alloc)?;
     for (place, wanted) in table.iter().enumerate() {
         let Some(left) = OPERANDS.get(place) else {
@@ -177,8 +174,8 @@ fn first_wrong(
 
 fn operator_wrong(
     alloc: Global,
-    operator: &[u8],
-    table: &[&[u8]],
+    operator: Piece,
+    table: &[Piece],
 ) -> Result<Option<usize>, AllocError> {
     first_wrong(alloc, (b"", operator, b""), table)
 }
@@ -231,7 +228,7 @@ fn branches_have_the_common_type(rt: HostRuntime) -> Result<(), Fail> {
 }
 
 /// What an operand is cast to: `+` where each type is allowed.
-fn cast_line(alloc: Global, scope: &Scope, operand: &[u8]) -> Result<Vec<u8>, AllocError> {
+fn cast_line(alloc: Global, scope: &Scope, operand: Piece) -> Result<Vec<u8>, AllocError> {
     let mut out = Vec::new(alloc);
     for kind in TYPES {
         if !out.is_empty() {
