@@ -16,7 +16,7 @@ abbrev pub after : {A : Type 0} → List A → Option (List A) → Option (List 
 after done more = option_map (λ rest. done ++ rest) more
 
 -- a set that has the partition names serves for these
-pub same_columns : (keys partitions : List (List ℕ)) (ds : Items) (r : Result (List (Option ColumnDef)) Fault) → ((name : List ℕ) → is_held keys name ≡ is_among partitions name)
+pub same_columns : (keys partitions : List (List ℕ)) (ds : Items) (r : Result (List (Result ColumnDef (List ℕ))) Fault) → ((name : List ℕ) → is_held keys name ≡ is_among partitions name)
     → Gives (each_item (column_of (is_held keys)) ds) r → Gives (each_item (column_of (is_among partitions)) ds) r
 same_columns keys partitions ds r same found = subst (λ (test : List ℕ → Bool). Gives (each_item (column_of test) ds) r) (fun_ext same) found
 
@@ -24,6 +24,6 @@ pub same_names : (keys others names : List (List ℕ)) → ((name : List ℕ) �
 same_names keys others names same = ap (λ (test : List ℕ → Bool). list_all test names) (fun_ext same)
 
 -- the column of a field, by its metadata
-pub column_by : (test : List ℕ → Bool) (field metadata : Data) (r : Result (Option ColumnDef) Fault) → metadata_of field ≡ Some metadata → Gives (column_with test field metadata) r → Gives (column_of test field) r
+pub column_by : (test : List ℕ → Bool) (field metadata : Data) (r : Result (Result ColumnDef (List ℕ)) Fault) → metadata_of field ≡ Some metadata → Gives (column_with test field metadata) r → Gives (column_of test field) r
 unfolding column_of
 column_by test field metadata r is found = rw is found

@@ -3,3 +3,4 @@ pub mod Held
 pub mod Others
 pub mod Collecting
 pub mod Naming
+pub mod WellFormed

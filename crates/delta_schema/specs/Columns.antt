@@ -1,11 +1,10 @@
 -- What a schema text means (PROTOCOL.md, "Schema Serialization Format").
-use Rattle.std.specs.Prelude.{ℕ, List, length, Bool, true, false, not, ◌&&◌, ◌||◌, Option, Some, None, unwrap_or, is_some, is_none, codes, nat_le, Result, Ok, Err, if◌then◌else◌}
-use Rattle.std.specs.List.{filter_map, position}
+use Rattle.std.specs.Prelude.{ℕ, List, [], ◌∷◌, ◌++◌, length, Bool, true, false, not, ◌&&◌, ◌||◌, Option, Some, None, unwrap_or, is_some, codes, nat_le, Result, Ok, Err, if◌then◌else◌}
 use Rattle.std.specs.Str.{bytes_eq}
 use Rattle.serde_json.specs.Data.{Data, Items}
 use Rattle.serde_json.specs.Find.{get, as_array, as_bool, as_str}
 use Rattle.serde_json.specs.Read.{read}
-use Rattle.dm_types.specs.Then.{◌>>=◌}
+use Rattle.dm_types.specs.Then.{go, ◌>>=◌}
 use Rattle.dm_types.specs.declared.value.DataType.{DataType}
 use Rattle.dm_types.specs.declared.value.DataType.TheVariants as kind
 use Rattle.delta_actions.specs.Forms.{needed, each_item}
@@ -56,16 +55,16 @@ described is_partition field metadata kind = do
     other = others_of (is_some identity) metadata;
   })
 
--- the column of a field with this metadata, None where its type is none that a column may have; the outer None is no
--- field. A field of another type must be well formed too, whatever stands for its type meanwhile.
-abbrev pub column_with : (List ℕ → Bool) → Data → Data → Option (Option ColumnDef)
+-- the column of a field with this metadata, or its name alone where its type is none that a column may have; None is
+-- no field. A field of another type must be well formed too, whatever stands for its type meanwhile.
+abbrev pub column_with : (List ℕ → Bool) → Data → Data → Option (Result ColumnDef (List ℕ))
 column_with is_partition field metadata = do
   type ← needed type_of (codes "type") field
   column ← described is_partition field metadata (unwrap_or type kind.Void)
   if is_misplaced type column.partition (is_some column.identity) then None
-      else Some (if is_some type then Some column else None)
+      else Some (if is_some type then Ok column else Err column.name)
 
-unfoldable pub column_of : (List ℕ → Bool) → Data → Option (Option ColumnDef)
+unfoldable pub column_of : (List ℕ → Bool) → Data → Option (Result ColumnDef (List ℕ))
 column_of is_partition field = metadata_of field >>= column_with is_partition field
 
 -- ---- a schema
@@ -80,25 +79,29 @@ fields_of d = do
 abbrev pub names_of : Items → Option (List (List ℕ))
 names_of fields = each_item (needed as_str (codes "name")) fields
 
--- the columns of a schema, None for one of a type that no column may have; the outer None is no schema
-abbrev pub struct_columns : List (List ℕ) → Data → Option (List (Option ColumnDef))
+-- the columns of a schema, each by its name alone where its type is none that a column may have; None is no schema
+abbrev pub struct_columns : List (List ℕ) → Data → Option (List (Result ColumnDef (List ℕ)))
 struct_columns partitions d = do
   fields ← fields_of d
   names ← names_of fields
   if are_good_names names partitions then each_item (column_of (is_among partitions)) fields else None
 
-abbrev pub columns_of : List ℕ → List (List ℕ) → Option (List (Option ColumnDef))
+abbrev pub columns_of : List ℕ → List (List ℕ) → Option (List (Result ColumnDef (List ℕ)))
 columns_of text partitions = read text >>= struct_columns partitions
 
--- the columns, where each has a type that a column may have
-abbrev pub unless_unsupported : Option ℕ → List ColumnDef → Result (List ColumnDef) SchemaFault
-unless_unsupported (Some place) columns = Err (fault.UnsupportedType place)
-unless_unsupported None columns = if nat_le (length columns) MAX_COLUMNS then Ok columns else Err fault.TooMany
+-- columns behind these, where each has a type that a column may have; else the name of the first that hasn't
+unfoldable pub typed : List ColumnDef → List (Result ColumnDef (List ℕ)) → Result (List ColumnDef) (List ℕ)
+typed before [] = Ok before
+typed before (column ∷ more) = go column (λ found. typed (before ++ found ∷ []) more)
+
+abbrev pub of_types : Result (List ColumnDef) (List ℕ) → Result (List ColumnDef) SchemaFault
+of_types (Ok columns) = if nat_le (length columns) MAX_COLUMNS then Ok columns else Err fault.TooMany
+of_types (Err name) = Err (fault.UnsupportedType name)
 
 -- the first column of a type that no column may have is refused, and then too many columns
-abbrev pub answer : Option (List (Option ColumnDef)) → Result (List ColumnDef) SchemaFault
+abbrev pub answer : Option (List (Result ColumnDef (List ℕ))) → Result (List ColumnDef) SchemaFault
 answer None = Err fault.BadSchema
-answer (Some columns) = unless_unsupported (position is_none columns) (filter_map (λ column. column) columns)
+answer (Some columns) = of_types (typed [] columns)
 
 -- what a schema text says of a table that is partitioned by the columns of these names
 abbrev pub schema_of : List ℕ → List (List ℕ) → Result (List ColumnDef) SchemaFault

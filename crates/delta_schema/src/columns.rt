@@ -1,10 +1,10 @@
 // The columns of a schema text.
-ghost use Rattle.std.specs.Prelude.{◌≡◌, IfOk, Some, option_map, is_none};
-ghost use Rattle.std.specs.List.{position, filter_map};
+ghost use Rattle.std.specs.Prelude.{◌≡◌, All, Some, [], IfOk, option_map};
+ghost use Rattle.dm_types.specs.Ranges.{IsWellFormed};
 ghost use Rattle.serde_json.specs.View.{view, items_view};
 ghost use Rattle.delta_schema.specs.Answers.{ReadsSchema};
-ghost use Rattle.delta_schema.specs.Columns.{fields_of, names_of, struct_columns as struct_columns_of, columns_of, answer as answer_of, schema_of};
-ghost use Rattle.delta_schema.specs.StepsReading.{Gives};
+ghost use Rattle.delta_schema.specs.Columns.{fields_of, names_of, struct_columns as struct_columns_of, columns_of, answer as answer_of, schema_of, typed as typed_of};
+ghost use Rattle.delta_schema.specs.StepsReading.{Gives, GivesTyped};
 
 use crate::fault::{Fault, SchemaFault};
 use crate::fields::columns;
@@ -13,7 +13,7 @@ use crate::names::are_good_names;
 use crate::schema::{ColumnDef, TableSchema};
 use dm_types::{Items, Text, TextList};
 use serde_json::Value;
-use std::alloc::{AllocError, Global};
+use std::alloc::Global;
 
 /// The greatest number of columns.
 pub const MAX_COLUMNS: usize = 500;
@@ -45,7 +45,7 @@ fn struct_columns(
     alloc: Global,
     value: &Value,
     partitions: &[Text],
-) -> Result<Items<Option<ColumnDef>>, Fault>
+) -> Result<Items<Result<ColumnDef, Text>>, Fault>
     ensures { Gives (struct_columns_of partitions.now (view value.now)) result }
 {
     let Some(fields) = fields(value) else {
@@ -58,12 +58,12 @@ fn struct_columns(
     columns(alloc, partitions, fields)
 }
 
-// The columns, None for one of a type that no column may have.
+// The columns, each by its name alone where its type is none that a column may have.
 fn text_columns(
     alloc: Global,
     text: &Text,
     partitions: &[Text],
-) -> Result<Items<Option<ColumnDef>>, Fault>
+) -> Result<Items<Result<ColumnDef, Text>>, Fault>
     ensures { Gives (columns_of text.now partitions.now) result }
 {
     match Value::from_str(alloc, text.as_str()) {
@@ -73,34 +73,28 @@ fn text_columns(
     }
 }
 
-// The columns that are there.
-fn present_columns(
+// The columns, where each has a type.
+#[tactic(auto, unfolding(crate::specs::Columns::typed))]
+fn typed(alloc: Global, columns: Items<Result<ColumnDef, Text>>) -> Result<TableSchema, SchemaFault>
+    ensures { GivesTyped (typed_of [] columns) result }
+{
+    let mut found = TableSchema::new(alloc);
+    for column in columns.into_vec() {
+        match column {
+            Ok(column) => found.push(column)?,
+            Err(column) => return Err(SchemaFault::UnsupportedType { column }),
+        }
+    }
+    Ok(found)
+}
+
+fn answer(
     alloc: Global,
-    columns: Items<Option<ColumnDef>>,
-) -> Result<TableSchema, AllocError>
-    ensures { IfOk result (λ found. found ≡ filter_map (λ column. column) columns) }
-{
-    let found = columns
-        .into_vec()
-        .into_iter()
-        .filter_map(|column| column)
-        .collect(alloc)?;
-    Ok(TableSchema::from_vec(found))
-}
-
-fn unsupported(columns: &[Option<ColumnDef>]) -> Option<usize>
-    ensures { result ≡ position is_none columns.now }
-{
-    columns.iter().position(|column| column.is_none())
-}
-
-fn answer(alloc: Global, columns: Items<Option<ColumnDef>>) -> Result<TableSchema, SchemaFault>
+    columns: Items<Result<ColumnDef, Text>>,
+) -> Result<TableSchema, SchemaFault>
     ensures { ReadsSchema (answer_of (Some columns)) result }
 {
-    if let Some(column) = unsupported(columns.as_slice()) {
-        return Err(SchemaFault::UnsupportedType { column });
-    }
-    let found = present_columns(alloc, columns)?;
+    let found = typed(alloc, columns)?;
     if found.len() > MAX_COLUMNS {
         return Err(SchemaFault::TooMany);
     }
@@ -124,7 +118,8 @@ pub fn read_schema(
     text: &Text,
     partitions: &TextList,
 ) -> Result<TableSchema, SchemaFault>
-    ensures { ReadsSchema (schema_of text.now partitions.now) result }
+    ensures columns { ReadsSchema (schema_of text.now partitions.now) result }
+    ensures kinds { IfOk result (All (λ column. IsWellFormed column.kind)) }
 {
     match text_columns(alloc, text, partitions.as_slice()) {
         Ok(columns) => answer(alloc, columns),

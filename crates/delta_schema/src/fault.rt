@@ -1,4 +1,5 @@
 // Why a schema isn't read.
+use dm_types::Text;
 use std::alloc::AllocError;
 use thiserror::Error;
 
@@ -9,10 +10,10 @@ pub enum SchemaFault {
     #[error("the text is no schema of the table")]
     BadSchema,
     /// A column is of a type that no column may have.
-    #[error("column {column} is of a type that isn't supported")]
+    #[error("a column is of a type that isn't supported")]
     UnsupportedType {
-        /// The place of the first such column, counted from 0.
-        column: usize,
+        /// The name of the first such column.
+        column: Text,
     },
     /// There are more than [`MAX_COLUMNS`](crate::MAX_COLUMNS) columns.
     #[error("there are too many columns")]

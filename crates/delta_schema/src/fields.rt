@@ -62,13 +62,14 @@ fn described(
     })
 }
 
-// The column of a field with this metadata, where its type is one that a column may have.
+// The column of a field with this metadata, or its name alone where its type is none that a column
+// may have.
 fn column_with(
     alloc: Global,
     partitions: &BTreeSet<Text>,
     field: &Value,
     metadata: &Value,
-) -> Result<Option<ColumnDef>, Fault>
+) -> Result<Result<ColumnDef, Text>, Fault>
     requires { is_whole (view metadata.now) ≡ true }
     ensures { Gives (column_with_metadata (is_held partitions.now.keys) (view field.now) (view metadata.now)) result }
 {
@@ -78,7 +79,11 @@ fn column_with(
     if is_misplaced(kind, column.partition, column.identity.is_some()) {
         return Err(Fault::Bad);
     }
-    Ok(if kind.is_some() { Some(column) } else { None })
+    Ok(if kind.is_some() {
+        Ok(column)
+    } else {
+        Err(column.name)
+    })
 }
 
 // The metadata of a field, or this where it has none.
@@ -101,7 +106,7 @@ fn column(
     alloc: Global,
     partitions: &BTreeSet<Text>,
     field: &Value,
-) -> Result<Option<ColumnDef>, Fault>
+) -> Result<Result<ColumnDef, Text>, Fault>
     ensures { Gives (column_of (is_held partitions.now.keys) (view field.now)) result }
 {
     let none = Value::Object(Map::new(alloc));
@@ -115,7 +120,7 @@ fn field_columns(
     alloc: Global,
     partitions: &BTreeSet<Text>,
     fields: &[Value],
-) -> Result<Items<Option<ColumnDef>>, Fault>
+) -> Result<Items<Result<ColumnDef, Text>>, Fault>
     ensures { Gives (each_item (column_of (is_held partitions.now.keys)) (items_view fields.now)) result }
 {
     let mut columns = Items::new(alloc);
@@ -125,12 +130,13 @@ fn field_columns(
     Ok(columns)
 }
 
-/// The columns of the fields in turn, None for one of a type that no column may have.
+/// The columns of the fields in turn, each by its name alone where its type is none that a column may
+/// have.
 pub(crate) fn columns(
     alloc: Global,
     partitions: &[Text],
     fields: &[Value],
-) -> Result<Items<Option<ColumnDef>>, Fault>
+) -> Result<Items<Result<ColumnDef, Text>>, Fault>
     ensures { Gives (each_item (column_of (is_among partitions.now)) (items_view fields.now)) result }
 {
     let set = set_of(alloc, partitions)?;

@@ -58,8 +58,8 @@ fn compare_scaled(number: i128, places: u8, other: i128) -> Ordering
     }
 }
 
-// `number` times ten to the power of `places`, where that is an `i128`.
-fn scaled(number: i128, places: u8) -> Option<i128>
+/// `number` times ten to the power of `places`, where that is an `i128`. It takes no memory.
+pub fn scaled(number: i128, places: u8) -> Option<i128>
     ensures { SomeIff result (FitsSigned w128 (number *ℤ pos (10 ^ places))) (number *ℤ pos (10 ^ places)) }
 {
     let mut product = number;

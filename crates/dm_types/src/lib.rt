@@ -14,7 +14,7 @@ mod refusal;
 mod text;
 mod value;
 
-pub use comparison::{compare, compare_decimals, same};
+pub use comparison::{compare, compare_decimals, same, scaled};
 pub use exact::Exact;
 pub use items::Items;
 pub use lane::Lane;

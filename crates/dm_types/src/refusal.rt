@@ -9,6 +9,12 @@ use std::alloc::AllocError;
 pub enum Counted {
     /// The commits of its log.
     Commits,
+    /// The columns of its schema.
+    Columns,
+    /// Its cells: rows times columns.
+    Cells,
+    /// The bytes of its texts and binary values, and of the printed values of its partition columns.
+    TextBytes,
 }
 
 /// Why a table isn't opened.
@@ -42,10 +48,73 @@ pub enum TableRefusal {
     },
     /// `O6`: the log has no metadata or no protocol.
     NoMetadata,
+    /// `O7`: the text of the schema isn't one.
+    BadSchema,
+    /// `O8`: a column is of a type that isn't read.
+    UnsupportedType {
+        /// The name of the first such column.
+        column: Text,
+    },
+    /// `O9`: a column isn't marked as the mapping of columns wants it.
+    BadMapping {
+        /// The name of the first such column.
+        column: Text,
+    },
     /// `O10`: a file has a deletion vector.
     DeletionVector {
         /// The file's path as logged.
         path: Text,
+    },
+    /// `O11`: the path of a file leads out of the table's folder, or is that of an earlier file.
+    BadPath {
+        /// The file's path as logged.
+        path: Text,
+    },
+    /// `O12`: a file isn't there.
+    MissingFile {
+        /// The file's path as logged.
+        path: Text,
+    },
+    /// `O13`: a file is no good Parquet file.
+    BadParquet {
+        /// The file's path as logged.
+        path: Text,
+    },
+    /// `O14`: a file has a compressed column chunk.
+    CompressedPage {
+        /// The file's path as logged.
+        path: Text,
+    },
+    /// `O15`: a file has a page of a kind or an encoding that isn't read.
+    UnsupportedEncoding {
+        /// The file's path as logged.
+        path: Text,
+    },
+    /// `O16`: a file doesn't hold a column, or not with a type that it is read of.
+    ColumnMismatch {
+        /// The file's path as logged.
+        path: Text,
+        /// The column's name.
+        column: Text,
+    },
+    /// `O17`: a column of a file has a value out of its range, or a null that it doesn't take.
+    ValueRange {
+        /// The file's path as logged.
+        path: Text,
+        /// The column's name.
+        column: Text,
+    },
+    /// `O18`: the value of a partition column isn't read, or is a null that the column doesn't take.
+    BadPartitionValue {
+        /// The file's path as logged.
+        path: Text,
+        /// The column's name.
+        column: Text,
+    },
+    /// `O19`: the ids of rows aren't sound.
+    RowIdsWrong {
+        /// The least id that fails; or the first mark that fell; or -1 where a file says no ids.
+        id: i64,
     },
     /// `O20`: a limit of size is passed.
     TooLarge {

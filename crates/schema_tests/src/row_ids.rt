@@ -6,7 +6,7 @@ ghost use Rattle.dm_types.specs.declared.value.DataType.TheVariants.{Long};
 use column_vectors::AnyColumn;
 use delta_actions::AddAction;
 use dm_types::{DataType, Text, Value};
-use row_tracking::{IdFault, RowId, RowIds, check_ids, ids_of};
+use row_tracking::{IdFault, RowId, RowIds, check_ids, ids_of, places_by_id};
 use std::alloc::{AllocError, Global};
 use std::process::Abort;
 use std::test::Fail;
@@ -314,6 +314,85 @@ fn a_million_ids_are_checked(rt: HostRuntime) -> Result<(), Fail> {
     ] {
         let rows = many(rt.alloc(), order)?;
         assert!(rt; check_ids(rt.alloc(), &rows, MILLION - 1, 0)? == least);
+    }
+    Ok(())
+}
+
+// Rows with these ids, and their places in the order of the ids.
+struct OrderCase {
+    ids: &'static [Option<i64>],
+    places: &'static [usize],
+}
+
+static ORDERS: [OrderCase; 7] = [
+    OrderCase {
+        ids: &[],
+        places: &[],
+    },
+    OrderCase {
+        ids: &[Some(2), Some(0), Some(1)],
+        places: &[1, 2, 0],
+    },
+    OrderCase {
+        ids: &[Some(4), Some(3), Some(2), Some(1), Some(0)],
+        places: &[4, 3, 2, 1, 0],
+    },
+    // Rows with the same id stay as they stand.
+    OrderCase {
+        ids: &[Some(7), Some(5), Some(7), Some(5)],
+        places: &[1, 3, 0, 2],
+    },
+    // So do rows without one, before all others.
+    OrderCase {
+        ids: &[None, None, None],
+        places: &[0, 1, 2],
+    },
+    OrderCase {
+        ids: &[Some(0), None, Some(-1), None],
+        places: &[1, 3, 2, 0],
+    },
+    OrderCase {
+        ids: &[
+            Some(9_223_372_036_854_775_807),
+            Some(-9_223_372_036_854_775_808),
+            Some(0),
+        ],
+        places: &[1, 2, 0],
+    },
+];
+
+// Rows with these ids.
+fn rows_with(alloc: Global, ids: &[Option<i64>]) -> Result<RowIds, AllocError> {
+    let mut rows = RowIds::new(alloc);
+    for id in ids {
+        rows.push(RowId {
+            id: *id,
+            version: None,
+        })?;
+    }
+    Ok(rows)
+}
+
+#[test]
+fn rows_are_put_in_the_order_of_their_ids(rt: HostRuntime) -> Result<(), Fail> {
+    for case in &ORDERS {
+        let rows = rows_with(rt.alloc(), case.ids)?;
+        let places = places_by_id(rt.alloc(), &rows)?;
+        assert!(rt; places.as_slice() == case.places);
+    }
+    Ok(())
+}
+
+#[test]
+fn a_million_rows_are_put_in_order(rt: HostRuntime) -> Result<(), Fail> {
+    for (order, first) in [
+        (Order::Ascending, 0),
+        (Order::Descending, 999_999),
+        (Order::Equal, 0),
+    ] {
+        let rows = many(rt.alloc(), order)?;
+        let places = places_by_id(rt.alloc(), &rows)?;
+        assert!(rt; places.as_slice().first() == Some(&first));
     }
     Ok(())
 }
