@@ -177,23 +177,21 @@ impl AnyColumn {
         Ok(AnyColumn { column })
     }
 
-    /// The rows of this column, and then those of another of the same type.
-    pub fn concat(&self, alloc: Global, other: &AnyColumn) -> Result<AnyColumn, AllocError>
-        requires { self.now.kind ≡ other.now.kind }
-        ensures { IfOk result (λ column. column
-            ≡ record { kind = self.now.kind; values = self.now.values ++ other.now.values }) }
+    /// The rows of this column, and then copies of those of another of the same type. The rows of this
+    /// one stay where they are.
+    pub fn concat(self, other: &AnyColumn) -> Result<AnyColumn, AllocError>
+        requires { self.kind ≡ other.now.kind }
+        ensures { IfOk result (λ column. column ≡ record { kind = self.kind; values = self.values ++ other.now.values }) }
     {
-        let column = match (&self.column, &other.column) {
-            (LaneColumn::Bool(a), LaneColumn::Bool(b)) => LaneColumn::Bool(a.concat(alloc, b)?),
-            (LaneColumn::Byte(a), LaneColumn::Byte(b)) => LaneColumn::Byte(a.concat(alloc, b)?),
-            (LaneColumn::Short(a), LaneColumn::Short(b)) => LaneColumn::Short(a.concat(alloc, b)?),
-            (LaneColumn::Int(a), LaneColumn::Int(b)) => LaneColumn::Int(a.concat(alloc, b)?),
-            (LaneColumn::Long(a), LaneColumn::Long(b)) => LaneColumn::Long(a.concat(alloc, b)?),
-            (LaneColumn::Decimal(a), LaneColumn::Decimal(b)) => {
-                LaneColumn::Decimal(a.concat(alloc, b)?)
-            }
-            (LaneColumn::Text(a), LaneColumn::Text(b)) => LaneColumn::Text(a.concat(alloc, b)?),
-            (LaneColumn::Bytes(a), LaneColumn::Bytes(b)) => LaneColumn::Bytes(a.concat(alloc, b)?),
+        let column = match (self.column, &other.column) {
+            (LaneColumn::Bool(a), LaneColumn::Bool(b)) => LaneColumn::Bool(a.concat(b)?),
+            (LaneColumn::Byte(a), LaneColumn::Byte(b)) => LaneColumn::Byte(a.concat(b)?),
+            (LaneColumn::Short(a), LaneColumn::Short(b)) => LaneColumn::Short(a.concat(b)?),
+            (LaneColumn::Int(a), LaneColumn::Int(b)) => LaneColumn::Int(a.concat(b)?),
+            (LaneColumn::Long(a), LaneColumn::Long(b)) => LaneColumn::Long(a.concat(b)?),
+            (LaneColumn::Decimal(a), LaneColumn::Decimal(b)) => LaneColumn::Decimal(a.concat(b)?),
+            (LaneColumn::Text(a), LaneColumn::Text(b)) => LaneColumn::Text(a.concat(b)?),
+            (LaneColumn::Bytes(a), LaneColumn::Bytes(b)) => LaneColumn::Bytes(a.concat(b)?),
             _ => unreachable!(),
         };
         Ok(AnyColumn { column })

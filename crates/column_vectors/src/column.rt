@@ -195,16 +195,14 @@ impl<T: Lane> Column<T> {
         Ok(column)
     }
 
-    /// The rows of this column, and then those of another of the same type.
-    pub fn concat(&self, alloc: Global, other: &Column<T>) -> Result<Column<T>, AllocError>
-        requires { self.now.kind ≡ other.now.kind }
-        ensures { IfOk result (λ column. column
-            ≡ record { kind = self.now.kind; values = self.now.values ++ other.now.values }) }
+    /// The rows of this column, and then copies of those of another of the same type. The rows of this
+    /// one stay where they are.
+    pub fn concat(mut self, other: &Column<T>) -> Result<Column<T>, AllocError>
+        requires { self.kind ≡ other.now.kind }
+        ensures { IfOk result (λ column. column ≡ record { kind = self.kind; values = self.values ++ other.now.values }) }
     {
-        let mut column = Column::new(alloc, self.kind);
-        column.append(self)?;
-        column.append(other)?;
-        Ok(column)
+        self.append(other)?;
+        Ok(self)
     }
 }
 

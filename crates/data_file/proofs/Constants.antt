@@ -24,20 +24,20 @@ front_kept xs ys k x is =
     let long = length-append xs ys in
     slice_get-get_or (xs ++ ys) k x (omega (arith, inside, long)) ∙ ap Some (get_or-append xs ys x k inside ∙ get_or_from_slice_get xs k x x is)
 
-pushed_at : {X : Type 0} (xs : List X) (x : X) → slice_get (xs ++ x ∷ []) (length xs) ≡ Some x
+pub pushed_at : {X : Type 0} (xs : List X) (x : X) → slice_get (xs ++ x ∷ []) (length xs) ≡ Some x
 pushed_at xs x =
     let long = length-append xs (x ∷ []) in
     slice_get-get_or (xs ++ x ∷ []) (length xs) x (omega (arith, long)) ∙ ap Some (get_or_push xs x x (length xs) refl)
 
-first_is : {X : Type 0} (x y : X) (xs : List X) → slice_get (x ∷ xs) 0 ≡ Some y → x ≡ y
+pub first_is : {X : Type 0} (x y : X) (xs : List X) → slice_get (x ∷ xs) 0 ≡ Some y → x ≡ y
 first_is x y xs is = get_or_from_slice_get (x ∷ xs) 0 y y is
 
-later_is : {X : Type 0} (x y : X) (xs : List X) (k : ℕ) → slice_get (x ∷ xs) (suc k) ≡ Some y → slice_get xs k ≡ Some y
+pub later_is : {X : Type 0} (x y : X) (xs : List X) (k : ℕ) → slice_get (x ∷ xs) (suc k) ≡ Some y → slice_get xs k ≡ Some y
 later_is x y xs k is =
     let inside = slice_get_within (x ∷ xs) (suc k) y is in
     slice_get-get_or xs k y (omega (arith, inside)) ∙ ap Some (get_or_from_slice_get (x ∷ xs) (suc k) y y is)
 
-none_there : {X : Type 0} (k : ℕ) (x : X) → slice_get [] k ≡ Some x → ⊥
+pub none_there : {X : Type 0} (k : ℕ) (x : X) → slice_get [] k ≡ Some x → ⊥
 none_there {X} k x is = let inside = slice_get_within {A = X} [] k x is in omega (arith, inside)
 
 -- ---- the values
@@ -56,7 +56,7 @@ told true known one is e =
     record { value = v.from; is = let e = v.gives in cc }
 told false known one is e = absurd cc
 
-constants_front : (mode : Mode) (values : Given) (columns : List ColumnDef) (found all : List (Option Value)) → constants_from mode values columns found ≡ Ok all → (k : ℕ) (x : Option Value) → slice_get found k ≡ Some x → slice_get all k ≡ Some x
+pub constants_front : (mode : Mode) (values : Given) (columns : List ColumnDef) (found all : List (Option Value)) → constants_from mode values columns found ≡ Ok all → (k : ℕ) (x : Option Value) → slice_get found k ≡ Some x → slice_get all k ≡ Some x
 unfolding constants_from
 constants_front mode values [] found all e k x is = let same : found ≡ all = cc in ap (λ (xs : List (Option Value)). slice_get xs k) (sym same) ∙ is
 constants_front mode values (column ∷ more) found all e k x is =
@@ -80,7 +80,7 @@ constants_value mode values (first ∷ more) found all e (suc k) column is parte
 
 -- ---- the columns
 
-columns_front : (it : Opened) (mode : Mode) (constants : List (Option Value)) (columns : List ColumnDef) (read all : List Cells × ℕ) → columns_from it mode constants columns read ≡ Ok all → (k : ℕ) (x : Cells) → slice_get read.0 k ≡ Some x → slice_get all.0 k ≡ Some x
+pub columns_front : (it : Opened) (mode : Mode) (constants : List (Option Value)) (columns : List ColumnDef) (read all : List Cells × ℕ) → columns_from it mode constants columns read ≡ Ok all → (k : ℕ) (x : Cells) → slice_get read.0 k ≡ Some x → slice_get all.0 k ≡ Some x
 unfolding columns_from
 columns_front it mode constants [] read all e k x is = let same : read ≡ all = cc in ap (λ (p : List Cells × ℕ). slice_get p.0 k) (sym same) ∙ is
 columns_front it mode constants (column ∷ more) read all e k x is =

@@ -13,7 +13,7 @@ use Rattle.dm_types.specs.Then.{go}
 use Rattle.dm_types.specs.declared.value.Value.{Value}
 use Rattle.data_file.specs.Partitions.{Given, constant_of, constants_from, key_of, printed_size, text_behind, text_under, value_of}
 use Rattle.data_file.specs.Room.{less, or_else}
-use Rattle.data_file.specs.declared.fault.PartCounted.TheVariants as counted
+use Rattle.dm_types.specs.declared.refusal.Counted.TheVariants as counted
 use Rattle.data_file.specs.declared.fault.PartFault.TheVariants as fault
 use Rattle.data_file.proofs.Begun.{next_of, none_left}
 

@@ -49,7 +49,7 @@ limited_by : (left : ℕ) (known : FileAnswer (List Value)) (values : List Value
 limited_by left (Ok found) values e = within_by left found values (nat_le (text_size found) left) refl e
 limited_by left (Err f) values e = absurd cc
 
-told_ok : (column : PartColumn) (known : FileAnswer (List Value)) (values : List Value) → told_in column known ≡ Ok values → known ≡ Ok values
+pub told_ok : (column : PartColumn) (known : FileAnswer (List Value)) (values : List Value) → told_in column known ≡ Ok values → known ≡ Ok values
 told_ok column (Ok found) values e = let same : found ≡ values = cc in ap Ok same
 told_ok column (Err f) values e = absurd cc
 

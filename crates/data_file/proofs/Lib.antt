@@ -8,3 +8,4 @@ mod Named
 mod Steps
 mod TextSizes
 mod Types
+mod Ranges

@@ -2,6 +2,7 @@ pub mod Room
 pub mod Partitions
 pub mod Stored
 pub mod Kinds
+pub mod Wanted
 pub mod Table
 pub mod Rows
 pub mod Answers

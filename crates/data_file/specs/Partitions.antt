@@ -10,7 +10,7 @@ use Rattle.dm_types.specs.Then.{go}
 use Rattle.dm_types.specs.declared.value.Value.{Value}
 use Rattle.dm_types.specs.declared.value.Value.TheVariants as value
 use Rattle.data_file.specs.Room.{Answer, less, or_else}
-use Rattle.data_file.specs.declared.fault.PartCounted.TheVariants as counted
+use Rattle.dm_types.specs.declared.refusal.Counted.TheVariants as counted
 use Rattle.data_file.specs.declared.fault.PartFault.TheVariants as fault
 
 -- the partition values that an action gives: texts or nulls under names

@@ -16,7 +16,7 @@ use Rattle.parquet_pages.specs.declared.fault.FileFault.{FileFault}
 use Rattle.parquet_pages.specs.declared.fault.FileFault.TheVariants as file
 use Rattle.data_file.specs.Room.{Answer}
 use Rattle.data_file.specs.declared.fault.PartColumn.{PartColumn}
-use Rattle.data_file.specs.declared.fault.PartCounted.TheVariants as counted
+use Rattle.dm_types.specs.declared.refusal.Counted.TheVariants as counted
 use Rattle.data_file.specs.declared.fault.PartFault.{PartFault}
 use Rattle.data_file.specs.declared.fault.PartFault.TheVariants as fault
 use Rattle.data_file.specs.declared.stored.Sought.{Sought}

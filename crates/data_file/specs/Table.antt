@@ -11,7 +11,7 @@ use Rattle.parquet_meta.specs.declared.metadata.LeafSchema.{LeafSchema}
 use Rattle.data_file.specs.Partitions.{Given, constants_from, text_behind}
 use Rattle.data_file.specs.Room.{Answer}
 use Rattle.data_file.specs.Stored.{rows_in, stored}
-use Rattle.data_file.specs.declared.columns.Columns.{Columns}
+use Rattle.data_file.specs.Wanted.{WantedColumns}
 use Rattle.data_file.specs.declared.fault.PartColumn.TheVariants as part
 use Rattle.data_file.specs.declared.stored.Sought.{Sought}
 
@@ -43,8 +43,8 @@ columns_from it mode constants (column ∷ more) read =
     read.1) (λ found. columns_from it mode constants more (read.0 ++ found.0 ∷ [], found.1))
 
 -- all columns of the table, and the room for text behind them
-unfoldable pub table_of : Opened → Columns → Given → ℕ → Answer (List Cells × ℕ)
+unfoldable pub table_of : Opened → WantedColumns → Given → ℕ → Answer (List Cells × ℕ)
 table_of it columns values text =
-    go (constants_from columns.mode values columns.schema.now []) (λ constants.
+    go (constants_from columns.mode values columns.schema []) (λ constants.
     go (text_behind (rows_in it) constants text) (λ left.
-    columns_from it columns.mode constants columns.schema.now ([], left)))
+    columns_from it columns.mode constants columns.schema ([], left)))

@@ -2,6 +2,7 @@
 ghost use Rattle.std.specs.Prelude.{◌≡◌};
 ghost use Rattle.data_file.specs.Stored.{fault_in as fault_in_of};
 
+use dm_types::Counted;
 use parquet_pages::FileFault;
 use std::alloc::AllocError;
 use thiserror::Error;
@@ -17,15 +18,6 @@ pub enum PartColumn {
     Versions,
     /// The kinds of changes.
     ChangeType,
-}
-
-/// What of a table version is past its limit with a file.
-#[derive(Clone, Copy, Debug, PartialEq, Eq)]
-pub enum PartCounted {
-    /// Its cells: rows times columns.
-    Cells,
-    /// The bytes of its texts and binary values, and of the printed values of its partition columns.
-    TextBytes,
 }
 
 /// Why the rows of a file aren't read.
@@ -62,7 +54,7 @@ pub enum PartFault {
     #[error("too much for one version of a table")]
     TooLarge {
         /// Which one.
-        counted: PartCounted,
+        counted: Counted,
     },
     /// There was no memory.
     #[error("no memory for the rows")]
@@ -91,7 +83,7 @@ pub(crate) fn fault_in(column: PartColumn, fault: FileFault) -> PartFault
         FileFault::Mismatch => PartFault::Mismatch { column },
         FileFault::Range => PartFault::Range { column },
         FileFault::TextLimit => PartFault::TooLarge {
-            counted: PartCounted::TextBytes,
+            counted: Counted::TextBytes,
         },
         FileFault::Memory => PartFault::Memory,
     }

@@ -4,6 +4,7 @@
 mod columns;
 mod fault;
 mod kinds;
+pub mod laws;
 mod partitions;
 mod room;
 mod rows;
@@ -12,6 +13,7 @@ mod table;
 mod texts;
 
 pub use columns::{CHANGE_TYPE, Columns};
-pub use fault::{PartColumn, PartCounted, PartFault};
+pub use fault::{PartColumn, PartFault};
 pub use room::{MAX_CELLS, MAX_TEXT, Room};
 pub use rows::{PartRows, read_rows};
+pub use stored::repeated;

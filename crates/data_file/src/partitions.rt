@@ -9,12 +9,12 @@ ghost use Rattle.data_file.specs.Partitions as spec;
 ghost use Rattle.data_file.specs.Steps.{AreConstants};
 
 use crate::columns::Columns;
-use crate::fault::{PartCounted, PartFault};
+use crate::fault::PartFault;
 use crate::room::less;
 use column_mapping::Mode;
 use delta_schema::{ColumnDef, TableSchema};
 use dm_text::{TextFault, print_value, read_value};
-use dm_types::{Bytes, DataType, Items, PartitionValues, Text, Value};
+use dm_types::{Bytes, Counted, DataType, Items, PartitionValues, Text, Value};
 use std::alloc::{AllocError, Global};
 
 /// For each column of a table the value that it has in each row of a file, where it is a partition
@@ -138,7 +138,7 @@ pub(crate) fn text_behind(
     let mut left = left;
     for (at, constant) in constants.as_slice().iter().enumerate() {
         let size = printed_size(alloc, &schema.get(at).kind, constant)?;
-        left = less(PartCounted::TextBytes, size, rows, left)?;
+        left = less(Counted::TextBytes, size, rows, left)?;
     }
     Ok(left)
 }

@@ -3,7 +3,8 @@ ghost use Rattle.std.specs.Prelude.{◌≡◌, ◌*◌};
 ghost use Rattle.data_file.specs.Answers.{Gives};
 ghost use Rattle.data_file.specs.Room.{less as less_of};
 
-use crate::fault::{PartCounted, PartFault};
+use crate::fault::PartFault;
+use dm_types::Counted;
 
 /// The greatest number of cells of a table version: rows times columns.
 pub const MAX_CELLS: u64 = 20_000_000;
@@ -34,7 +35,7 @@ impl Room {
 }
 
 /// What is left where so many times so much is taken, or TooLarge. It takes no memory.
-pub(crate) fn less(counted: PartCounted, size: u64, times: u64, left: u64) -> Result<u64, PartFault>
+pub(crate) fn less(counted: Counted, size: u64, times: u64, left: u64) -> Result<u64, PartFault>
     ensures { Gives (λ left. left) (less_of counted (size * times) left) result }
 {
     match size.checked_mul(times) {

@@ -2,20 +2,22 @@
 ghost use Rattle.std.specs.Prelude.{◌≡◌, length, All, IfOk, IfSome};
 ghost use Rattle.dm_types.specs.Ranges.{IsWellFormed};
 ghost use Rattle.parquet_file.specs.File.{opened};
-ghost use Rattle.data_file.specs.Answers.{Gives, HasConstants, HasRows, HasTypes};
+ghost use Rattle.data_file.specs.Answers.{AreRanged, Gives, HasConstants, HasLongs, HasRows, HasTypes};
 ghost use Rattle.data_file.specs.Room.{or_else};
 ghost use Rattle.data_file.specs.Rows.{seen, part_of as part_of_file, rows_of};
 ghost use Rattle.data_file.specs.Stored.{rows_in};
+ghost use Rattle.data_file.specs.Wanted.{wanted};
 ghost use Rattle.data_file.specs.declared.fault.PartFault.TheVariants as fault;
 
 use crate::columns::Columns;
-use crate::fault::{PartColumn, PartCounted, PartFault};
+use crate::fault::{PartColumn, PartFault};
 use crate::kinds::kinds;
+use crate::laws::rows_are_ranged;
 use crate::room::{Room, less};
 use crate::stored::materialized;
 use crate::table::table_of;
 use column_vectors::{AnyColumn, Batch};
-use dm_types::PartitionValues;
+use dm_types::{Counted, PartitionValues};
 use parquet_file::{ParquetFile, open_file};
 use parquet_pages::FileFault;
 use std::alloc::Global;
@@ -56,9 +58,9 @@ fn part_of(
     room: Room,
 ) -> Result<PartRows, PartFault>
     requires { batch.rows ≡ rows_in file.now }
-    ensures part { Gives seen (part_of_file file.now columns.now room.cells (batch.columns, room.text)) result }
-    ensures ids { IfOk result (λ part. IfSome part.ids (HasRows part.batch.rows)) }
-    ensures versions { IfOk result (λ part. IfSome part.versions (HasRows part.batch.rows)) }
+    ensures part { Gives seen (part_of_file file.now (wanted columns.now) room.cells (batch.columns, room.text)) result }
+    ensures ids { IfOk result (λ part. IfSome part.ids (HasLongs part.batch.rows)) }
+    ensures versions { IfOk result (λ part. IfSome part.versions (HasLongs part.batch.rows)) }
     ensures kinds { IfOk result (λ part. IfSome part.kinds (HasRows part.batch.rows)) }
 {
     let (ids, text) = materialized(alloc, file, PartColumn::Ids, columns.ids, room.text)?;
@@ -74,6 +76,27 @@ fn part_of(
             text,
         },
     })
+}
+
+// The same as `read_rows`, without what follows from it.
+fn file_rows(
+    alloc: Global,
+    columns: &Columns<'_>,
+    values: &PartitionValues,
+    bytes: &[u8],
+    room: &Room,
+) -> Result<PartRows, PartFault>
+    requires { All (λ column. IsWellFormed column.kind) columns.now.schema.now }
+    ensures part { Gives seen (rows_of (wanted columns.now) values.now bytes.now room.now) result }
+    ensures ids { IfOk result (λ part. IfSome part.ids (HasLongs part.batch.rows)) }
+    ensures versions { IfOk result (λ part. IfSome part.versions (HasLongs part.batch.rows)) }
+    ensures kinds { IfOk result (λ part. IfSome part.kinds (HasRows part.batch.rows)) }
+{
+    let file = file_of(alloc, bytes)?;
+    let width = columns.schema.len() as u64;
+    let cells = less(Counted::Cells, width, file.rows(), room.cells)?;
+    let (batch, text) = table_of(alloc, &file, columns, values, room.text)?;
+    part_of(alloc, &file, columns, batch, Room { cells, text })
 }
 
 /// The rows of one data file or change file of a table, or the first fault, in this order:
@@ -92,8 +115,9 @@ fn part_of(
 ///   TextBytes over all columns so far;
 /// - Range for `_change_type` where a text is none of the four kinds, or is null.
 ///
-/// A nullable column that no element carries is null in each row, and takes no text. The bytes are
-/// lent, and gone through once; nothing of so many rows is built before the cells are counted.
+/// A nullable column that no element carries is null in each row, and takes no text. Each value is null
+/// or in the range of its column's type, and none is null where the schema's column takes no null. The
+/// bytes are lent, and gone through once; nothing of so many rows is built before the cells are counted.
 pub fn read_rows(
     alloc: Global,
     columns: &Columns<'_>,
@@ -102,16 +126,14 @@ pub fn read_rows(
     room: &Room,
 ) -> Result<PartRows, PartFault>
     requires { All (λ column. IsWellFormed column.kind) columns.now.schema.now }
-    ensures part { Gives seen (rows_of columns.now values.now bytes.now room.now) result }
+    ensures part { Gives seen (rows_of (wanted columns.now) values.now bytes.now room.now) result }
     ensures types { IfOk result (λ part. HasTypes columns.now.schema.now part.batch.columns) }
     ensures constants { IfOk result (λ part. HasConstants columns.now.schema.now part.batch.rows part.batch.columns) }
-    ensures ids { IfOk result (λ part. IfSome part.ids (HasRows part.batch.rows)) }
-    ensures versions { IfOk result (λ part. IfSome part.versions (HasRows part.batch.rows)) }
+    ensures ranges { IfOk result (λ part. AreRanged columns.now.schema.now part.batch.columns) }
+    ensures ids { IfOk result (λ part. IfSome part.ids (HasLongs part.batch.rows)) }
+    ensures versions { IfOk result (λ part. IfSome part.versions (HasLongs part.batch.rows)) }
     ensures kinds { IfOk result (λ part. IfSome part.kinds (HasRows part.batch.rows)) }
 {
-    let file = file_of(alloc, bytes)?;
-    let width = columns.schema.len() as u64;
-    let cells = less(PartCounted::Cells, width, file.rows(), room.cells)?;
-    let (batch, text) = table_of(alloc, &file, columns, values, room.text)?;
-    part_of(alloc, &file, columns, batch, Room { cells, text })
+    rows_are_ranged();
+    file_rows(alloc, columns, values, bytes, room)
 }

@@ -5,6 +5,7 @@ ghost use Rattle.column_mapping.specs.Places.{IsWithin};
 ghost use Rattle.dm_types.specs.Lanes.{IsNullOrOf};
 ghost use Rattle.dm_types.specs.Ranges.{IsWellFormed};
 ghost use Rattle.dm_types.specs.Then.{go};
+ghost use Rattle.dm_types.specs.declared.value.DataType.TheVariants.{Long};
 ghost use Rattle.parquet_pages.specs.Kept.{text_size as text_size_of};
 ghost use Rattle.data_file.specs.Answers.{Gives};
 ghost use Rattle.data_file.specs.Steps.{full_place};
@@ -32,8 +33,8 @@ pub(crate) struct Sought {
     pub(crate) place: PlaceChoice,
 }
 
-/// The same value in each of so many rows.
-pub(crate) fn repeated(
+/// The column with the same value in each of so many rows.
+pub fn repeated(
     alloc: Global,
     kind: DataType,
     value: &Value,
@@ -104,6 +105,7 @@ pub(crate) fn stored(
     requires kind { IsWellFormed sought.now.kind }
     requires place { IsWithin file.now.footer.leaves sought.now.place }
     ensures found { Gives (λ found. found) (spec.stored file.now sought.now left) result }
+    ensures kind { IfOk result (λ found. found.0.kind ≡ sought.now.kind) }
     ensures rows { IfOk result (λ found. length found.0.values ≡ rows_in file.now) }
 {
     let column = column_at(alloc, file, sought, left)?;
@@ -152,6 +154,7 @@ pub(crate) fn materialized(
 ) -> Result<(Option<AnyColumn>, u64), PartFault>
     ensures found { Gives (λ found. found)
         (spec.materialized file.now column (option_copied name.entry) left) result }
+    ensures kind { IfOk result (λ found. IfSome found.0 (λ column. column.kind ≡ Long)) }
     ensures rows { IfOk result (λ found. IfSome found.0 (λ column. length column.values ≡ rows_in file.now)) }
 {
     match name {

@@ -6,6 +6,7 @@ ghost use Rattle.data_file.specs.Answers.{Gives};
 ghost use Rattle.data_file.specs.Steps.{AreConstants};
 ghost use Rattle.data_file.specs.Stored.{rows_in};
 ghost use Rattle.data_file.specs.Table as spec;
+ghost use Rattle.data_file.specs.Wanted.{wanted};
 
 use crate::columns::Columns;
 use crate::fault::{PartColumn, PartFault};
@@ -82,7 +83,7 @@ pub(crate) fn table_of(
 ) -> Result<(Batch, u64), PartFault>
     requires { All (λ column. IsWellFormed column.kind) columns.now.schema.now }
     ensures found { Gives (λ found. (found.0.columns, found.1))
-        (spec.table_of file.now columns.now values.now text) result }
+        (spec.table_of file.now (wanted columns.now) values.now text) result }
     ensures rows { IfOk result (λ found. found.0.rows ≡ rows_in file.now) }
 {
     let constants = constants(alloc, columns, values)?;

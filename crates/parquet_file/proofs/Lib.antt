@@ -5,3 +5,4 @@ pub mod FilesBack
 pub mod FilesWritten
 pub mod SoundGroups
 pub mod RowsHeld
+pub mod ValuesRanged

@@ -29,16 +29,16 @@ use Rattle.parquet_file.specs.File.{GroupChunk, Opened, chunks_of, chunks_values
 abbrev pub ChunksWhole : Type 0
 ChunksWhole = (file : List ℕ) (chunk : ChunkMeta) (wanted : Wanted) (rows : ℕ) (values : List Value) → chunk_values file chunk wanted rows ≡ Ok values → length values ≡ rows
 
-record Went {A B : Type 0} (known : Answer A) (step : A → Answer B) (b : B) : Type 0 where
-  from : A
-  is : known ≡ Ok from
-  gives : step from ≡ Ok b
+pub record Went {A B : Type 0} (known : Answer A) (step : A → Answer B) (b : B) : Type 0 where
+  pub from : A
+  pub is : known ≡ Ok from
+  pub gives : step from ≡ Ok b
 
-went : {A B : Type 0} (known : Answer A) (step : A → Answer B) (b : B) → go known step ≡ Ok b → Went known step b
+pub went : {A B : Type 0} (known : Answer A) (step : A → Answer B) (b : B) → go known step ≡ Ok b → Went known step b
 went (Ok a) step b e = record { from = a; is = refl; gives = e }
 went (Err f) step b e = absurd cc
 
-unless : {A : Type 0} (b : Bool) (f : FileFault) (known : Answer A) (a : A) → cond b (Err f) known ≡ Ok a → known ≡ Ok a
+pub unless : {A : Type 0} (b : Bool) (f : FileFault) (known : Answer A) (a : A) → cond b (Err f) known ≡ Ok a → known ≡ Ok a
 unless true f known a e = absurd cc
 unless false f known a e = e
 
@@ -97,7 +97,7 @@ sound_rows f i sound within =
 
 -- ---- the column
 
-limited : (b : Bool) (found values : List Value) → cond b (Ok found) (Err fault.TextLimit) ≡ Ok values → found ≡ values
+pub limited : (b : Bool) (found values : List Value) → cond b (Ok found) (Err fault.TextLimit) ≡ Ok values → found ≡ values
 limited true found values e = cc
 limited false found values e = absurd cc
 

@@ -3,6 +3,7 @@
 
 mod columns;
 mod file;
+pub mod laws;
 mod opening;
 mod writing;
 

@@ -13,3 +13,4 @@ pub mod Typed
 pub mod ValuesBack
 pub mod Whole
 pub mod WholeChunks
+pub mod Ranged

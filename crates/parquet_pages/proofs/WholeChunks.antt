@@ -40,16 +40,16 @@ came : {A B : Type 0} (known : Option A) (step : A → Option B) (b : B) → (kn
 came None step b e = absurd cc
 came (Some a) step b e = record { from = a; is = refl; gives = e }
 
-record Went {A B : Type 0} (known : Answer A) (step : A → Answer B) (b : B) : Type 0 where
-  from : A
-  is : known ≡ Ok from
-  gives : step from ≡ Ok b
+pub record Went {A B : Type 0} (known : Answer A) (step : A → Answer B) (b : B) : Type 0 where
+  pub from : A
+  pub is : known ≡ Ok from
+  pub gives : step from ≡ Ok b
 
-went : {A B : Type 0} (known : Answer A) (step : A → Answer B) (b : B) → go known step ≡ Ok b → Went known step b
+pub went : {A B : Type 0} (known : Answer A) (step : A → Answer B) (b : B) → go known step ≡ Ok b → Went known step b
 went (Ok a) step b e = record { from = a; is = refl; gives = e }
 went (Err f) step b e = absurd cc
 
-told_ok : {A : Type 0} (f : FileFault) (known : Option A) (a : A) → or_else f known ≡ Ok a → known ≡ Some a
+pub told_ok : {A : Type 0} (f : FileFault) (known : Option A) (a : A) → or_else f known ≡ Ok a → known ≡ Some a
 told_ok f None a e = absurd cc
 told_ok f (Some b) a e = let same : b ≡ a = cc in ap Some same
 
@@ -57,7 +57,7 @@ where_it : {A : Type 0} (b : Bool) (x y : A) → cond b (Some x) None ≡ Some y
 where_it true x y e = (refl, cc)
 where_it false x y e = absurd cc
 
-unless : {A : Type 0} (b : Bool) (f : FileFault) (known : Answer A) (a : A) → cond b (Err f) known ≡ Ok a → known ≡ Ok a
+pub unless : {A : Type 0} (b : Bool) (f : FileFault) (known : Answer A) (a : A) → cond b (Err f) known ≡ Ok a → known ≡ Ok a
 unless true f known a e = absurd cc
 unless false f known a e = e
 

@@ -1,5 +1,6 @@
 // Columns that are read, chunk after chunk.
-ghost use Rattle.std.specs.Prelude.{◌≡◌, ℕ, Bool, List, [], ◌++◌, length, Ok};
+ghost use Rattle.std.specs.Prelude.{◌≡◌, ℕ, Bool, true, false, List, [], ◌++◌, length, All, Ok};
+ghost use Rattle.dm_types.specs.Ranges.{IsNullOrInRange, IsWellFormed};
 ghost use Rattle.dm_types.specs.Then.{go};
 ghost use Rattle.dm_types.specs.declared.value.DataType.{DataType as AType};
 ghost use Rattle.dm_types.specs.declared.value.Value.{Value as AValue};
@@ -7,6 +8,7 @@ ghost use Rattle.parquet_meta.specs.declared.metadata.ChunkMeta.{ChunkMeta as AC
 ghost use Rattle.parquet_pages.specs.Chunk.{chunk_values, within};
 ghost use Rattle.parquet_pages.specs.Kept.{begun, finished, with_more};
 ghost use Rattle.parquet_pages.specs.Pages.{Wanted};
+ghost use Rattle.parquet_pages.specs.Stored.{is_full};
 ghost use Rattle.parquet_pages.specs.declared.kept.Reading.{Reading as AReading};
 
 /// A law: values that are added after others are added as one list with them, and a column that is
@@ -27,3 +29,14 @@ pub fn chunks_are_whole()
 {
     level_runs::laws::runs_fit();
 }
+
+/// A law: the values of a chunk are null or in the range of the column's type, and none is null where
+/// the column takes no null.
+pub fn values_are_ranged()
+    ensures ranges { (file : List ℕ) (chunk : AChunk) (wanted : Wanted) (rows : ℕ) (values : List AValue)
+        → IsWellFormed wanted.kind → chunk_values file chunk wanted rows ≡ Ok values
+        → All (IsNullOrInRange wanted.kind) values }
+    ensures full { (file : List ℕ) (chunk : AChunk) (wanted : Wanted) (rows : ℕ) (values : List AValue)
+        → IsWellFormed wanted.kind → wanted.nullable ≡ false → chunk_values file chunk wanted rows ≡ Ok values
+        → All (λ value. is_full value ≡ true) values }
+{}

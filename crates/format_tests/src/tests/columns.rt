@@ -51,14 +51,27 @@ fn holds(column: &AnyColumn, values: &Row) -> Result<bool, AllocError> {
     Ok(column.len() == values.len())
 }
 
+// A column of two values and null, and two of its rows behind it.
+fn with_turned(
+    alloc: Global,
+    kind: DataType,
+    first: Value,
+    last: Value,
+) -> Result<AnyColumn, AllocError>
+    requires first { IsNullOrOf kind first }
+    requires last { IsNullOrOf kind last }
+{
+    let column = column_of(alloc, kind, first, last)?;
+    let turned = column.gather(alloc, &places(alloc, 2, 1)?)?;
+    column.concat(&turned)
+}
+
 // Whether a column of two values and null is kept, with two of its rows behind it.
 fn keeps(alloc: Global, kind: DataType, first: Value, last: Value) -> Result<bool, AllocError>
     requires first { IsNullOrOf kind first }
     requires last { IsNullOrOf kind last }
 {
-    let column = column_of(alloc, kind, first.clone()?, last.clone()?)?;
-    let turned = column.gather(alloc, &places(alloc, 2, 1)?)?;
-    let whole = column.concat(alloc, &turned)?;
+    let whole = with_turned(alloc, kind, first.clone()?, last.clone()?)?;
     let mut expected = Row::new(alloc);
     expected.push(first)?;
     expected.push(Value::Null)?;
@@ -96,7 +109,8 @@ fn long_column(alloc: Global) -> Result<Column<LaneLong>, AllocError> {
     column.push(7)?;
     column.push_null()?;
     for _ in 0..19 {
-        column = column.concat(alloc, &column)?;
+        let more = column.clone()?;
+        column = column.concat(&more)?;
     }
     Ok(column)
 }

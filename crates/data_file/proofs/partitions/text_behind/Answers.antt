@@ -3,7 +3,7 @@ use Rattle.dm_types.specs.Then.{go}
 use Rattle.dm_types.specs.declared.value.Value.{Value}
 use Rattle.data_file.specs.Partitions.{text_behind}
 use Rattle.data_file.specs.Room.{less}
-use Rattle.data_file.specs.declared.fault.PartCounted.TheVariants as counted
+use Rattle.dm_types.specs.declared.refusal.Counted.TheVariants as counted
 use Rattle.data_file.proofs.Begun.{fails, goes_on}
 use Rattle.data_file.proofs.GivenValues.{text-last, text-next}
 use Rattle.data_file.proofs.partitions.text_behind.Goals as goal
