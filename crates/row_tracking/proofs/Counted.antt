@@ -6,12 +6,8 @@ use Rattle.std.specs.List.Sorted.{IsPermutation}
 use Rattle.std.proofs.lemmas.Bool.Decides.{Decides-int_eq}
 use Rattle.std.proofs.lemmas.List.Recursion.{is_sum_by}
 use Rattle.std.proofs.lemmas.List.Sorted.{sum_by-IsPermutation}
+use Rattle.row_tracking.specs.Checked.{is_number}
 use Rattle.row_tracking.specs.StepsChecked.{IsRepeated}
-
--- this number is there
-abbrev is_number : ℤ → Option ℤ → Bool
-is_number n None = false
-is_number n (Some m) = int_eq m n
 
 -- how many elements have the number
 abbrev count_of : {X : Type 0} → (X → Option ℤ) → ℤ → List X → ℕ
@@ -80,6 +76,14 @@ count-cons_option n (Some m) ms c is = ap (λ (k : ℕ). cond (int_eq m n) 1 0 +
 count-filter_map : {X : Type 0} (number : X → Option ℤ) (n : ℤ) (xs : List X) → count_of Some n (filter_map number xs) ≡ count_of number n xs
 count-filter_map number n [] = refl
 count-filter_map number n (x ∷ xs) = count-cons_option n (number x) (filter_map number xs) (count_of number n xs) (count-filter_map number n xs)
+
+pub two_from_count : {X : Type 0} (number : X → Option ℤ) (n : ℤ) (xs : List X) → 1 < sum_by (λ x. cond (is_number n (number x)) 1 0) xs → IsRepeated number xs n
+two_from_count number n xs some = two_of number n xs (omega (arith, count_of-is number n xs))
+
+pub count_from_two : {X : Type 0} (number : X → Option ℤ) (n : ℤ) (xs : List X) → IsRepeated number xs n → 1 < sum_by (λ x. cond (is_number n (number x)) 1 0) xs
+count_from_two number n xs is =
+    let two = of_two number n xs is.first is.second is.apart is.within is.at_first is.at_second in
+    omega (arith, count_of-is number n xs)
 
 -- the numbers of some elements, in any order
 count-moved : {X : Type 0} (number : X → Option ℤ) (n : ℤ) (xs : List X) (ns : List ℤ) → IsPermutation (filter_map number xs) ns → count_of Some n ns ≡ count_of number n xs

@@ -3,3 +3,7 @@ pub mod Counted
 pub mod Neighbours
 pub mod Leasts
 pub mod Failing
+pub mod LeastId
+pub mod Sorting
+pub mod IdOrder
+pub mod FreeOrder

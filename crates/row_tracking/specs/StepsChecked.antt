@@ -1,30 +1,17 @@
 -- How the least id that fails is found: row by row, and among the ids in order.
-use Rattle.std.specs.Prelude.{◌≡◌, ℕ, ◌<◌, ℤ, pos, int_lt, Bool, true, false, ◌||◌, List, length, Option, Some, None, slice_index_or}
+use Rattle.std.specs.Prelude.{◌≡◌, ℕ, ◌<◌, ℤ, pos, Bool, true, false, ◌||◌, List, length, Option, Some, None, slice_index_or}
 use Rattle.std.specs.Int.{int_min}
-use Rattle.row_tracking.specs.Checked.{no_row}
+use Rattle.row_tracking.specs.Checked.{no_row, is_some_outside}
 use Rattle.row_tracking.specs.declared.row_id.RowId.{RowId}
-
--- a test of `IsOutside`
-abbrev pub is_outside : ℤ → ℤ → Bool
-is_outside greatest n = int_lt n (pos 0) || int_lt greatest n
-
--- a row's version is there and outside
-abbrev pub is_misdated : ℕ → Option ℤ → Bool
-is_misdated version None = false
-is_misdated version (Some v) = is_outside (pos version) v
 
 abbrev pub id_if : Bool → Option ℤ → Option ℤ
 id_if true id = id
 id_if false id = None
 
--- whether an id, if there is one, is outside
-abbrev pub is_past : ℤ → Option ℤ → Bool
-is_past mark None = false
-is_past mark (Some id) = is_outside mark id
-
 -- the id of a row that fails by this row alone
 abbrev pub failing_id : ℤ → ℕ → RowId → Option ℤ
-failing_id mark version row = id_if (is_past mark row.id || is_misdated version row.version) row.id
+failing_id mark version row =
+    id_if (is_some_outside mark row.id || is_some_outside (pos version) row.version) row.id
 
 -- a row below a place has this id, which fails by that row alone
 pub record FailsBelow (rows : List RowId) (mark : ℤ) (version high : ℕ) (id : ℤ) : Type 0 where

@@ -2,8 +2,8 @@
 ghost use Rattle.std.specs.Prelude.{◌≡◌, length, Some, IfOk, filter_map};
 ghost use Rattle.std.specs.List.Sorted.{IsPermutation, IsSorted};
 ghost use Rattle.std.specs.Ordering.{int_cmp};
-ghost use Rattle.row_tracking.specs.Checked.{Fails, IsLeast};
-ghost use Rattle.row_tracking.specs.StepsChecked.{FailsBelow, IsRepeated, failing_id, is_outside as is_outside_of, lesser as lesser_of};
+ghost use Rattle.row_tracking.specs.Checked.{Fails, IsLeast, is_outside as is_outside_of, least_failing};
+ghost use Rattle.row_tracking.specs.StepsChecked.{FailsBelow, IsRepeated, failing_id, lesser as lesser_of};
 
 use crate::row_id::{RowId, RowIds};
 use std::alloc::{AllocError, Global};
@@ -11,7 +11,8 @@ use std::alloc::{AllocError, Global};
 /// The least id that fails, if one does (PROTOCOL.md, "Row Tracking").
 ///
 /// Every id is to be from 0 to the mark and held by one row, whose commit version is to be from 0 to
-/// the table's version. A row without an id, or without a version, fails nothing by what it lacks.
+/// the table's version. A row without an id, or without a version, fails nothing by what it lacks. The
+/// order of the rows doesn't matter ([`order_is_free`](crate::laws::order_is_free)).
 ///
 /// It takes the memory of the ids once more, and n log n steps.
 pub fn check_ids(
@@ -20,16 +21,17 @@ pub fn check_ids(
     mark: i64,
     version: u64,
 ) -> Result<Option<i64>, AllocError>
-    ensures { IfOk result (IsLeast (Fails all.now mark version)) }
+    ensures least { IfOk result (IsLeast (Fails all.now mark version)) }
+    ensures same { IfOk result (λ id. id ≡ least_failing all.now mark version) }
 {
     let rows = all.as_slice();
-    let alone = least_failing(rows, mark, version);
+    let alone = least_alone(rows, mark, version);
     let repeated = least_repeated(&sorted_ids(alloc, rows)?);
     Ok(lesser(alone, repeated))
 }
 
 // The least id that fails by a row alone: by its own value, or by the row's version.
-fn least_failing(rows: &[RowId], mark: i64, version: u64) -> Option<i64>
+fn least_alone(rows: &[RowId], mark: i64, version: u64) -> Option<i64>
     ensures { IsLeast (FailsBelow rows.now mark version (length rows.now)) result }
 {
     let mut least = None;

@@ -3,7 +3,7 @@ use Rattle.std.proofs.lemmas.Int.{to_z-of_z}
 use Rattle.row_tracking.specs.Checked.{IsLeast, no_row}
 use Rattle.row_tracking.specs.StepsChecked.{FailsBelow, lesser}
 use Rattle.row_tracking.proofs.Failing.{fails_more}
-use Rattle.row_tracking.proofs.checking.least_failing.Goals as goal
+use Rattle.row_tracking.proofs.checking.least_alone.Goals as goal
 
 pub loop-row-preserved : goal.loop-row-preserved
 loop-row-preserved c =
