@@ -35,6 +35,12 @@ module _ {A : Type 0} {D : Lang Token A} (x : Plain D) where
   pub some_plain : Plain (g.some D)
   some_plain = valued_plain g.list (both_plain x (many_plain x))
 
+pub version_plain : (script : List ℕ) → Plain (g.version script)
+version_plain script = valued_plain (tree.version script) (token_plain k.Whole)
+
+pub at_version_plain : (script : List ℕ) → Plain (g.at_version script)
+at_version_plain script = valued_plain tree.at_version (both_plain (token_plain k.Version) (both_plain (token_plain k.As) (both_plain (token_plain k.Of) (version_plain script))))
+
 pub type_plain : (script : List ℕ) (depth : ℕ) → Plain (g.written_type script depth)
 type_plain script depth = either_plain (valued_plain tree.plain_type (one_plain (any is_plain_type)))
     (valued_plain (tree.decimal_type script) (both_plain (token_plain k.DecimalWord) (both_plain (opening_plain depth k.Open)

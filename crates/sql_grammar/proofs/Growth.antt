@@ -41,10 +41,10 @@ opening_grows (suc depth) kind h = token_grows kind h
 open_local : (depth : ℕ) (kind : Kind) → Local (g.opening depth kind)
 open_local depth kind = (opening_plain depth kind).local
 
-maybe_grows : {A : Type 0} {D D' : Lang Token A} → Grows D D' → Grows (g.maybe D) (g.maybe D')
+pub maybe_grows : {A : Type 0} {D D' : Lang Token A} → Grows D D' → Grows (g.maybe D) (g.maybe D')
 maybe_grows x = either_grows (valued_grows Some x) (valued_grows (λ _. None) nothing_grows)
 
-maybe_local : {A : Type 0} {D : Lang Token A} → Plain D → Local (g.maybe D)
+pub maybe_local : {A : Type 0} {D : Lang Token A} → Plain D → Local (g.maybe D)
 maybe_local x = (maybe_plain x).local
 
 chain_grows : {D D' : Lang Token Expr} (operator : Token → Bool) (t : Token) → operator t ≡ true → Grows D D' → Local D' → Grows (g.chain operator D) (g.chain operator D')
@@ -64,6 +64,15 @@ module _ {A : Type 0} {D D' : Lang Token A} (x : Grows D D') (l : Plain D') wher
 
   commas_grows : Grows (g.commas D) (g.commas D')
   commas_grows = valued_grows g.list (both_grows x (many_grows next_grows (next_plain l).local) l.local)
+
+-- ---- versions
+
+version_grows : (script : List ℕ) → Grows (g.version script) (g.version script)
+version_grows script = valued_grows (tree.version script) (token_grows k.Whole refl)
+
+pub at_version_grows : (script : List ℕ) → Grows (g.at_version script) (g.at_version script)
+at_version_grows script = valued_grows tree.at_version (both_grows (token_grows k.Version refl) (both_grows (token_grows k.As refl)
+    (both_grows (token_grows k.Of refl) (version_grows script) (token_local k.Of)) (token_local k.As)) (token_local k.Version))
 
 -- ---- types
 

@@ -1,7 +1,8 @@
 -- Each form holds what its parts hold.
-use Rattle.std.proofs.Common.{◌≡◌, ℕ, Bool, true, false, List, [], ◌∷◌, length, refl, ap, subst, arith}
-use Rattle.std.specs.Prelude.{◌&&◌, ◌||◌, if◌then◌else◌, nat_le, map, Option, Some, None, IfSome, IsSome, unwrap_or}
+use Rattle.std.proofs.Common.{◌≡◌, ◌<◌, ◌^◌, ℕ, Bool, true, false, List, [], ◌∷◌, length, refl, ap, subst, arith}
+use Rattle.std.specs.Prelude.{◌&&◌, ◌||◌, if◌then◌else◌, nat_le, nat_lt, map, Option, Some, None, IfSome, IsSome, unwrap_or}
 use Rattle.std.specs.List.{AllByRecursion}
+use Rattle.std.proofs.lemmas.Bool.{lt-ltb}
 use Rattle.dm_types.specs.declared.value.DataType.TheVariants as d
 use Rattle.sql_tree.specs.Places.{slice, IsPlaced}
 use Rattle.sql_tree.specs.Spans.{Layer, span_at, span_of}
@@ -10,6 +11,7 @@ use Rattle.sql_tree.specs.declared.token.Kind.{Kind}
 use Rattle.sql_tree.specs.declared.token.Kind.TheVariants as k
 use Rattle.sql_tree.specs.declared.token.Token.{Token}
 use Rattle.sql_tree.specs.declared.token.Span.{Span}
+use Rattle.sql_tree.specs.declared.tree.Number.{Number}
 use Rattle.sql_tree.specs.declared.tree.WrittenKind.TheVariants as w
 use Rattle.sql_tree.specs.declared.tree.WrittenType.{WrittenType}
 use Rattle.sql_tree.specs.declared.tree.Expr.{Expr, out-Expr}
@@ -17,10 +19,11 @@ use Rattle.sql_tree.specs.declared.tree.Expr.TheFolds.{every_here-Expr, every_ma
 use Rattle.sql_tree.specs.declared.tree.Expr.TheOpen.{Expr-F}
 use Rattle.sql_tree.specs.declared.tree.Expr.TheVariants as e
 use Rattle.sql_tree.specs.declared.tree.Expr.TheVariants.{rolls-Literal, rolls-Column, rolls-Group, rolls-Unary, rolls-Binary, rolls-Is, rolls-Between, rolls-In, rolls-Case, rolls-Cast, rolls-Call}
-use Rattle.sql_lex.specs.Content.{Means, name_of, table_of, text_of, bytes_of, number_of}
+use Rattle.sql_lex.specs.Content.{Means, name_of, table_of, text_of, bytes_of, number_of, is_number, precision, scale}
+use Rattle.sql_lex.specs.Numbers.{unscaled}
 use Rattle.sql_lex.specs.Stand.{IsPart}
 use Rattle.sql_grammar.specs.Tree as tree
-use Rattle.sql_grammar.specs.Held.{HoldsName, HoldsTable, HoldsText, HoldsNumber, HoldsLiteral, HoldsNumbers, HoldsType, HoldsNode, HoldsExpr}
+use Rattle.sql_grammar.specs.Held.{HoldsName, HoldsTable, HoldsText, HoldsNumber, HoldsVersion, HoldsLiteral, HoldsNumbers, HoldsType, HoldsNode, HoldsExpr}
 
 -- ---- content that is there
 
@@ -64,6 +67,18 @@ text_means _ z h m = absurd (cc)
 whole_means : (kind : Kind) (z : List ℕ) → is k.Whole (record { kind = kind; span = record { start = 0; «end» = 0 } }) ≡ true → Means kind z → IsSome (number_of z)
 whole_means k.Whole z h m = m.0
 whole_means _ z h m = absurd (cc)
+
+number_below : (found : Bool) (n other : Number) → IsSome (if found then Some n else None) → n.unscaled < 2 ^ 63 → (unwrap_or (if found then Some n else None) other).unscaled < 2 ^ 63
+number_below true n other h below = below
+number_below false n other h below = absurd (cc)
+
+whole_below : (kind : Kind) (z : List ℕ) (other : Number) → is k.Whole (record { kind = kind; span = record { start = 0; «end» = 0 } }) ≡ true → Means kind z → (unwrap_or (number_of z) other).unscaled < 2 ^ 63
+whole_below k.Whole z other h m = number_below (is_number z) (record { unscaled = unscaled z; precision = precision z; scale = scale z }) other m.0 m.1
+whole_below _ z other h m = absurd (cc)
+
+-- a number below the limit is kept
+kept_below : (n limit : ℕ) → n < limit → n ≡ (if nat_lt n limit then n else 0)
+kept_below n limit below = rw (lt-ltb n limit below) refl
 
 literal_means : (script : List ℕ) (kind : Kind) (s : Span) → is_value kind ≡ true → Means kind (slice script s) → HoldsLiteral script s (tree.literal_of script kind s)
 literal_means script k.Whole s h m = some_is (number_of (slice script s)) _ m.0
@@ -109,6 +124,12 @@ module _ (script : List ℕ) where
     means = some_is (number_of (slice script t.span)) _ (whole_means t.kind (slice script t.span) h x.means);
     unscaled = refl;
   }
+
+  pub version_held : (t : Token) → Stands script t → is k.Whole t ≡ true → HoldsVersion script (tree.version script t)
+  version_held t x h =
+      let n = (tree.number_at script t.span).unscaled in
+      let below : n < 2 ^ 63 = whole_below t.kind (slice script t.span) (record { unscaled = 0; precision = 1; scale = 0 }) h x.means in
+      subst (HoldsVersion script) (kept_below n (2 ^ 63) below) (record { number = number_held t x h; below = below })
 
   -- ---- types
 

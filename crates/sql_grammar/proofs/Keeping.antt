@@ -16,8 +16,8 @@ use Rattle.sql_tree.specs.declared.tree.Expr.{Expr}
 use Rattle.sql_tree.specs.Kinds.{is, any, names, names_alone, is_value, compares, multiplies, signs, is_truth, is_plain_type, is_text, dates}
 use Rattle.sql_grammar.specs.Grammar as g
 use Rattle.sql_grammar.specs.Tree as tree
-use Rattle.sql_grammar.specs.Held.{HoldsType, HoldsExpr}
-use Rattle.sql_grammar.proofs.Holding.{Stands, HoldsBranch, placed, joined_place, expr_placed, alone_named, date_named, plain_held, decimal_held, group_held, literal_held, in_held, case_held, prefixed_held, joined_held, is_held, not_placed, between_held, cast_held, column_held, qualified_held, call_held, dated_held}
+use Rattle.sql_grammar.specs.Held.{HoldsVersion, HoldsType, HoldsExpr}
+use Rattle.sql_grammar.proofs.Holding.{Stands, HoldsBranch, placed, joined_place, expr_placed, alone_named, date_named, version_held, plain_held, decimal_held, group_held, literal_held, in_held, case_held, prefixed_held, joined_held, is_held, not_placed, between_held, cast_held, column_held, qualified_held, call_held, dated_held}
 
 module _ (script : List ℕ) where
   -- what stands behind a name, an operand, and an operand with the NOT behind it
@@ -67,6 +67,14 @@ module _ (script : List ℕ) where
 
   signed : {D : Lang Token Expr} (sign : Token → Bool) → Keep D (HoldsExpr script) → Keep (g.signed sign D) (HoldsExpr script)
   signed sign x = valued_keeps (both_keeps (many_keeps (one_keeps sign)) x) tree.all_prefixed (λ p h. signs_held p.0 p.1 sign h.0 h.1)
+
+  -- ---- versions
+
+  version : Keep (g.version script) (HoldsVersion script)
+  version = valued_keeps (token k.Whole) (tree.version script) (λ t h. version_held script t h.0 h.1)
+
+  pub at_version : Keep (g.at_version script) (HoldsVersion script)
+  at_version = valued_keeps (both_keeps (token k.Version) (both_keeps (token k.As) (both_keeps (token k.Of) version))) tree.at_version (λ p h. h.1.1.1)
 
   -- ---- types
 

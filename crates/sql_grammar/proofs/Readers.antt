@@ -62,6 +62,15 @@ module _ {A : Type 0} {D : Lang Token A} {f : Reader Token A} {first goes : Toke
   pub commas_leads : Apart (is k.Comma) goes → Leads (g.commas D) (r.run_commas f) first (λ t. goes t || (is k.Comma t || goes t))
   commas_leads apart = valued_leads g.list (then_maybe_leads x (many_meets next_leads apart) apart)
 
+-- ---- versions
+
+pub version_leads : (script : List ℕ) → Leads (g.version script) (r.run_version script) (is k.Whole) none
+version_leads script = valued_leads (tree.version script) (token_leads k.Whole)
+
+pub at_version_leads : (script : List ℕ) → Leads (g.at_version script) (r.run_at_version script) (is k.Version) none
+at_version_leads script = valued_leads tree.at_version (both_leads (token_leads k.Version) (both_leads (token_leads k.As)
+    (both_leads (token_leads k.Of) (version_leads script) (λ t _. refl)) (λ t _. refl)) (λ t _. refl))
+
 -- ---- types
 
 pub type_leads : (script : List ℕ) (depth : ℕ) → Leads (g.written_type script depth) (r.run_type script depth) (λ t. any is_plain_type t || is k.DecimalWord t) none

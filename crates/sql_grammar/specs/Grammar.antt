@@ -59,6 +59,17 @@ name = one (any names)
 abbrev pub table : Lang Token Token
 table = one (any is_table)
 
+-- ---- versions of a table
+
+-- n, a whole number up to 2^63 - 1
+abbrev pub version : List ℕ → Lang Token ℕ
+version script = valued (tree.version script) whole
+
+-- at = VERSION AS OF n
+abbrev pub at_version : List ℕ → Lang Token ℕ
+at_version script = valued tree.at_version (both (token k.Version) (both (token k.As) (both (token k.Of)
+    (version script))))
+
 -- ---- types
 
 -- type = BOOLEAN | TINYINT | SMALLINT | INT | BIGINT | STRING | BINARY | DATE | TIMESTAMP | DECIMAL "(" n "," n ")"

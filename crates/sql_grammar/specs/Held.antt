@@ -1,6 +1,6 @@
 -- What a tree holds, held against its script: each part is there, and each name, text and number is what the bytes of
 -- its part mean.
-use Rattle.std.specs.Prelude.{◌≡◌, ℕ, List, length, Some, IfSome, ⊤}
+use Rattle.std.specs.Prelude.{◌≡◌, ◌<◌, ◌^◌, ℕ, List, length, Some, IfSome, ⊤}
 use Rattle.dm_types.specs.declared.value.DataType.TheVariants as d
 use Rattle.sql_tree.specs.Places.{slice, IsPlaced}
 use Rattle.sql_tree.specs.declared.token.Span.{Span}
@@ -38,6 +38,11 @@ pub record HoldsNumber (script : List ℕ) (n : ℕ) : Type 0 where
   pub part : IsPart (length script) place
   pub means : number_of (slice script place) ≡ Some number
   pub unscaled : n ≡ number.unscaled
+
+-- .. and this number is one of a version
+pub record HoldsVersion (script : List ℕ) (n : ℕ) : Type 0 where
+  pub number : HoldsNumber script n
+  pub below : n < 2 ^ 63
 
 -- a literal that stands at a part
 abbrev pub HoldsLiteral : List ℕ → Span → Literal → Type 0

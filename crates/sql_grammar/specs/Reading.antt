@@ -49,6 +49,18 @@ run_name = run_one (any names)
 abbrev pub run_table : Reader Token Token
 run_table = run_one (any is_table)
 
+-- ---- versions of a table
+
+abbrev pub run_version : List ℕ → Reader Token ℕ
+run_version script = run_valued (tree.version script) (run_token k.Whole)
+
+abbrev pub run_at_version : List ℕ → Reader Token ℕ
+run_at_version script = run_valued tree.at_version (run_both (run_token k.Version) (run_both (run_token k.As) (run_both
+    (run_token k.Of) (run_version script))))
+
+abbrev pub run_maybe_at_version : List ℕ → Reader Token (Option ℕ)
+run_maybe_at_version script = run_maybe (is k.Version) (run_at_version script)
+
 -- ---- types
 
 abbrev pub run_decimal : List ℕ → ℕ → Reader Token WrittenType

@@ -1,29 +1,33 @@
 -- The grammar of statements and scripts: the tree of each statement, what it holds of the script, its production, and
 -- the reader of this production.
-use Rattle.std.specs.Prelude.{ℕ, Bool, ◌||◌, List}
+use Rattle.std.specs.Prelude.{ℕ, Bool, ◌||◌, List, Option, IfSome}
 use Rattle.token_lang.specs.Lang.{Lang, both, either, valued, many}
 use Rattle.token_lang.specs.Run.{Reader, run_both, run_either}
 use Rattle.sql_tree.specs.declared.token.Kind.TheVariants as k
 use Rattle.sql_tree.specs.declared.token.Token.{Token}
 use Rattle.sql_tree.specs.declared.tree.Expr.{Expr}
 use Rattle.sql_tree.specs.declared.tree.Stmt.{Stmt}
-use Rattle.sql_tree.specs.declared.tree.Stmt.TheVariants.{ShowFiles, Delete}
+use Rattle.sql_tree.specs.declared.tree.Stmt.TheVariants.{ShowFiles, ShowRows, Delete}
 use Rattle.sql_tree.specs.Kinds.{is}
-use Rattle.sql_grammar.specs.Grammar.{token, table, any_expr, expression}
-use Rattle.sql_grammar.specs.Held.{HoldsTable}
-use Rattle.sql_grammar.specs.Reading.{run_token, run_valued, run_all, run_table}
+use Rattle.sql_grammar.specs.Grammar.{second, token, table, maybe, at_version, any_expr, expression}
+use Rattle.sql_grammar.specs.Held.{HoldsTable, HoldsVersion}
+use Rattle.sql_grammar.specs.Reading.{run_token, run_valued, run_all, run_table, run_maybe_at_version}
 use Rattle.sql_grammar.specs.Tree.{table_at}
 
 -- ---- what the script holds
 
 abbrev pub HoldsStmt : List ℕ → Stmt → Type 0
 HoldsStmt script (ShowFiles table) = HoldsTable script table
+HoldsStmt script (ShowRows table version) = HoldsTable script table × IfSome version (HoldsVersion script)
 HoldsStmt script (Delete table) = HoldsTable script table
 
 -- ---- trees
 
-abbrev pub show_files : List ℕ → Token × (Token × Token) → Stmt
-show_files script p = ShowFiles (table_at script (p.1.1).span)
+abbrev pub show_files : List ℕ → Token × Token → Stmt
+show_files script p = ShowFiles (table_at script (p.1).span)
+
+abbrev pub show_rows : List ℕ → Token × (Token × Option ℕ) → Stmt
+show_rows script p = ShowRows (table_at script (p.1.0).span) p.1.1
 
 abbrev pub delete : List ℕ → Token × (Token × Token) → Stmt
 delete script p = Delete (table_at script (p.1.1).span)
@@ -31,9 +35,17 @@ delete script p = Delete (table_at script (p.1.1).span)
 -- ---- productions, over the expressions that may stand in them
 
 module _ (bytes : List ℕ) (condition : Lang Token Expr) where
-  -- SHOW FILES table
+  -- FILES table, behind SHOW
+  abbrev pub show_files_of : Lang Token Stmt
+  show_files_of = valued (show_files bytes) (both (token k.Files) table)
+
+  -- ROWS table [at], behind SHOW
+  abbrev pub show_rows_of : Lang Token Stmt
+  show_rows_of = valued (show_rows bytes) (both (token k.Rows) (both table (maybe (at_version bytes))))
+
+  -- SHOW FILES table | SHOW ROWS table [at]
   abbrev pub show_of : Lang Token Stmt
-  show_of = valued (show_files bytes) (both (token k.Show) (both (token k.Files) table))
+  show_of = valued second (both (token k.Show) (either show_files_of show_rows_of))
 
   -- DELETE FROM table
   abbrev pub delete_of : Lang Token Stmt
@@ -64,8 +76,18 @@ abbrev pub first_statement : Token → Bool
 first_statement t = is k.Show t || is k.Delete t
 
 module _ (bytes : List ℕ) where
+  abbrev pub run_show_files : Reader Token Stmt
+  run_show_files = run_valued (show_files bytes) (run_both (run_token k.Files) run_table)
+
+  abbrev pub run_show_rows : Reader Token Stmt
+  run_show_rows = run_valued (show_rows bytes) (run_both (run_token k.Rows) (run_both run_table
+      (run_maybe_at_version bytes)))
+
+  abbrev pub run_shown : Reader Token Stmt
+  run_shown = run_either (is k.Files) run_show_files run_show_rows
+
   abbrev pub run_show : Reader Token Stmt
-  run_show = run_valued (show_files bytes) (run_both (run_token k.Show) (run_both (run_token k.Files) run_table))
+  run_show = run_valued second (run_both (run_token k.Show) run_shown)
 
   abbrev pub run_delete : Reader Token Stmt
   run_delete = run_valued (delete bytes) (run_both (run_token k.Delete) (run_both (run_token k.From) run_table))

@@ -1,5 +1,5 @@
 -- The trees that the grammar makes: what each form keeps of its tokens and parts.
-use Rattle.std.specs.Prelude.{ℕ, ◌&&◌, nat_le, if◌then◌else◌, List, [], ◌∷◌, fold, Option, Some, None, is_some, unwrap_or}
+use Rattle.std.specs.Prelude.{ℕ, ◌^◌, ◌&&◌, nat_le, nat_lt, if◌then◌else◌, List, [], ◌∷◌, fold, Option, Some, None, is_some, unwrap_or}
 use Rattle.dm_types.specs.declared.value.DataType.TheVariants as d
 use Rattle.dm_types.specs.declared.value.TheConstants.{MAX_PRECISION}
 use Rattle.sql_tree.specs.Places.{slice}
@@ -49,6 +49,10 @@ module _ (script : List ℕ) where
 
   abbrev pub number_at : Span → Number
   number_at s = unwrap_or (number_of (slice script s)) (record { unscaled = 0; precision = 1; scale = 0 })
+
+  -- the grammar's n: a whole number below 2^63
+  abbrev pub whole_at : Span → ℕ
+  whole_at s = if nat_lt (number_at s).unscaled (2 ^ 63) then (number_at s).unscaled else 0
 
   -- ---- what a token stands for
 
@@ -110,6 +114,15 @@ decimal_of precision scale =
     if nat_le 1 precision && (nat_le precision MAX_PRECISION && nat_le scale precision)
     then w.Type (d.Decimal precision scale)
     else w.BadDecimal precision scale
+
+-- ---- versions
+
+abbrev pub version : List ℕ → Token → ℕ
+version script t = whole_at script t.span
+
+-- behind VERSION AS OF
+abbrev pub at_version : Token × (Token × (Token × ℕ)) → ℕ
+at_version p = p.1.1.1
 
 -- ---- forms; each takes its parts in their order
 

@@ -94,7 +94,8 @@ pub fn places_are_one()
 
 /// A law: where the grammar takes out a common front, it derives what it does with the front written
 /// twice. A name is a column, `name ["." name]`, or a call, `name "(" .. ")"`; DATE and TIMESTAMP
-/// stand before a text, or are names; a NOT stands before BETWEEN or before IN.
+/// stand before a text, or are names; a NOT stands before BETWEEN or before IN; a SHOW stands before
+/// FILES or before ROWS.
 pub fn common_fronts()
     ensures names { (bytes : List ℕ) (depth : ℕ) → let arguments = grammar.arguments bytes depth
         (grammar.inside bytes depth) in
@@ -112,6 +113,10 @@ pub fn common_fronts()
         (either (valued tree.maybe_not (both (grammar.maybe (grammar.token Kind.Not))
         (grammar.between bytes depth inside)))
         (valued tree.maybe_not (both (grammar.maybe (grammar.token Kind.Not)) (grammar.among bytes depth inside)))) }
+    ensures shows { (bytes : List ℕ) → let expression = grammar.expression bytes in
+        Same (statements.show_of bytes expression)
+        (either (valued grammar.second (both (grammar.token Kind.Show) (statements.show_files_of bytes expression)))
+        (valued grammar.second (both (grammar.token Kind.Show) (statements.show_rows_of bytes expression)))) }
 {}
 
 /// A law: of tokens that stand in the bytes and mean what their kinds say, the grammar makes trees

@@ -79,6 +79,14 @@ impl<'a> Source<'a> {
         };
         number_of(part(self.script, span)).unwrap_or(none)
     }
+
+    // A whole number below 2^63.
+    pub(crate) fn whole_at(&self, span: Span) -> u64
+        ensures { result ≡ tree.whole_at self.now span }
+    {
+        let number = self.number_at(span).unscaled;
+        if number < 1 << 63 { number as u64 } else { 0 }
+    }
 }
 
 // The bytes of a part of a script.

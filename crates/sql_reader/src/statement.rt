@@ -36,16 +36,74 @@ fn expression(source: &Source<'_>, tokens: &mut Tokens<'_>) -> Result<Expr, Faul
     found
 }
 
-// SHOW FILES
-fn show(source: &Source<'_>, tokens: &mut Tokens<'_>) -> Result<Stmt, Fault>
-    ensures { Yields (statements.run_show source.now tokens.old) result tokens.new }
+// The number of a version.
+fn version(source: &Source<'_>, tokens: &mut Tokens<'_>) -> Result<u64, Fault>
+    ensures { Yields (reading.run_version source.now tokens.old) result tokens.new }
 {
-    tokens.take(Kind::Show)?;
+    let number = tokens.take(Kind::Whole)?;
+    Ok(source.whole_at(number.span))
+}
+
+// VERSION AS OF
+fn at_version(source: &Source<'_>, tokens: &mut Tokens<'_>) -> Result<u64, Fault>
+    ensures { Yields (reading.run_at_version source.now tokens.old) result tokens.new }
+{
+    tokens.take(Kind::Version)?;
+    tokens.take(Kind::As)?;
+    tokens.take(Kind::Of)?;
+    version(source, tokens)
+}
+
+// The version that is asked for, if any.
+fn maybe_at_version(source: &Source<'_>, tokens: &mut Tokens<'_>) -> Result<Option<u64>, Fault>
+    ensures { Yields (reading.run_maybe_at_version source.now tokens.old) result tokens.new }
+{
+    if tokens.sees(Kind::Version) {
+        return Ok(Some(at_version(source, tokens)?));
+    }
+    Ok(None)
+}
+
+// FILES, behind SHOW
+fn show_files(source: &Source<'_>, tokens: &mut Tokens<'_>) -> Result<Stmt, Fault>
+    ensures { Yields (statements.run_show_files source.now tokens.old) result tokens.new }
+{
     tokens.take(Kind::Files)?;
     let table = tokens.take_any(Class::Table)?;
     Ok(Stmt::ShowFiles {
         table: source.table_at(table.span)?,
     })
+}
+
+// ROWS, behind SHOW
+fn show_rows(source: &Source<'_>, tokens: &mut Tokens<'_>) -> Result<Stmt, Fault>
+    ensures { Yields (statements.run_show_rows source.now tokens.old) result tokens.new }
+{
+    tokens.take(Kind::Rows)?;
+    let table = tokens.take_any(Class::Table)?;
+    let version = maybe_at_version(source, tokens)?;
+    Ok(Stmt::ShowRows {
+        table: source.table_at(table.span)?,
+        version,
+    })
+}
+
+// What stands behind SHOW.
+fn shown(source: &Source<'_>, tokens: &mut Tokens<'_>) -> Result<Stmt, Fault>
+    ensures { Yields (statements.run_shown source.now tokens.old) result tokens.new }
+{
+    if tokens.sees(Kind::Files) {
+        return show_files(source, tokens);
+    }
+    show_rows(source, tokens)
+}
+
+// SHOW
+fn show(source: &Source<'_>, tokens: &mut Tokens<'_>) -> Result<Stmt, Fault>
+    ensures { Yields (statements.run_show source.now tokens.old) result tokens.new }
+{
+    tokens.take(Kind::Show)?;
+    shown(source, tokens)
 }
 
 // DELETE

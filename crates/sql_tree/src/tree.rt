@@ -227,7 +227,17 @@ impl Expr {
 #[derive(Drop)]
 pub enum Stmt {
     /// `SHOW FILES table`: the paths of the live files of the newest version.
-    ShowFiles { table: TableName },
+    ShowFiles {
+        table: TableName,
+    },
+    /// `SHOW ROWS table [VERSION AS OF version]`: the rows of a version, or of the newest where none is
+    /// asked for, with their ids and commit versions.
+    ShowRows {
+        table: TableName,
+        version: Option<u64>,
+    },
     /// `DELETE FROM table`: removes all rows, as a new version.
-    Delete { table: TableName },
+    Delete {
+        table: TableName,
+    },
 }

@@ -251,7 +251,7 @@ const SCRIPTS: [(&[u8], u64); 24] = [
     (b"SHOW FILES `t`;", 11),
     (b"SHOW FILES t--;", 15),
     (b"SHOW FILESt;", 5),
-    (b"SHOW ROWS t;", 5),
+    (b"SHOW IDENTITIES t;", 5),
     (b"SELECT * FROM t;", 0),
     (b"DELETE t;", 7),
     (b"DELETE FROM t WHERE a;", 14),
@@ -260,6 +260,48 @@ const SCRIPTS: [(&[u8], u64); 24] = [
     (b"SHOW FILES t; -- \xff", 14),
     (b"SHOW FILES t; '", 14),
     (b"SHOW FILES t; SHOW FILES u; x", 28),
+];
+
+/// Scripts of one `SHOW ROWS`: its table, and the version that it asks for.
+const SHOWN_ROWS: [(&[u8], &str, Option<u64>); 6] = [
+    (b"SHOW ROWS t;", "t", None),
+    (b"show rows t version as of 0;", "t", Some(0)),
+    (b"SHOW ROWS Rows;", "Rows", None),
+    (b"SHOW ROWS from VERSION AS OF 007;", "from", Some(7)),
+    (
+        b"SHOW ROWS version--\nversion as\nof 1;",
+        "version",
+        Some(1),
+    ),
+    (
+        b"SHOW ROWS t VERSION AS OF 9223372036854775807;",
+        "t",
+        Some(9223372036854775807),
+    ),
+];
+
+/// Scripts of a `SHOW ROWS` that goes wrong, and where.
+const NO_ROWS: [(&[u8], u64); 20] = [
+    (b"SHOW ROWS", 9),
+    (b"SHOW ROWS;", 9),
+    (b"SHOW ROWSt;", 5),
+    (b"SHOW ROWS t", 11),
+    (b"SHOW ROWS t u;", 12),
+    (b"SHOW ROWS t AS OF 1;", 12),
+    (b"SHOW ROWS t `version` AS OF 1;", 12),
+    (b"SHOW ROWS t VERSION", 19),
+    (b"SHOW ROWS t VERSION 1;", 20),
+    (b"SHOW ROWS t VERSION OF 1;", 20),
+    (b"SHOW ROWS t VERSION AS 1;", 23),
+    (b"SHOW ROWS t VERSION AS OF;", 25),
+    (b"SHOW ROWS t VERSION AS OF 1", 27),
+    (b"SHOW ROWS t VERSION AS OF 1.0;", 26),
+    (b"SHOW ROWS t VERSION AS OF -1;", 26),
+    (b"SHOW ROWS t VERSION AS OF '1';", 26),
+    (b"SHOW ROWS t VERSION AS OF 9223372036854775808;", 26),
+    (b"SHOW ROWS t VERSION AS OF 1 AS OF 1;", 28),
+    (b"SHOW ROWS t VERSION AS OF 1 VERSION AS OF 1;", 28),
+    (b"SHOW FILES t VERSION AS OF 1;", 13),
 ];
 
 /// The names, the text or the bytes of an expression.
@@ -337,6 +379,17 @@ fn script_place(alloc: Global, bytes: &[u8]) -> Option<u64> {
         Ok(_) => Some(bytes.len() as u64),
         Err(ScriptFault::BadScript { at }) => Some(at),
         Err(ScriptFault::Memory) => None,
+    }
+}
+
+/// Whether the bytes are one statement, which asks for these rows.
+fn asks_for_rows(alloc: Global, bytes: &[u8], name: &str, wanted: Option<u64>) -> bool {
+    let Ok(statements) = read_script(alloc, bytes) else {
+        return false;
+    };
+    match statements.as_slice() {
+        [Stmt::ShowRows { table, version }] => table.text.is(name) && *version == wanted,
+        _ => false,
     }
 }
 
@@ -441,6 +494,17 @@ fn faults_have_their_places(rt: HostRuntime) -> Result<(), Fail> {
     }
     for (bytes, place) in SCRIPTS {
         assert_eq!(rt; script_place(alloc, bytes), Some(place));
+    }
+    Ok(())
+}
+
+#[test]
+fn rows_are_asked_for(rt: HostRuntime) -> Result<(), Fail> {
+    for (bytes, name, version) in SHOWN_ROWS {
+        assert!(rt; asks_for_rows(rt.alloc(), bytes, name, version));
+    }
+    for (bytes, place) in NO_ROWS {
+        assert_eq!(rt; script_place(rt.alloc(), bytes), Some(place));
     }
     Ok(())
 }
