@@ -41,8 +41,8 @@ fn day_number(year: u128, month: u128, day: u128) -> Option<i32>
     }
 }
 
-/// The date of a day.
-pub(crate) fn date_of(day: i64) -> Date
+/// The date of a day, counted from 1970-01-01. Its year is from 1 to 9999.
+pub fn date_of(day: i64) -> Date
     requires { IsDay day }
     ensures { Parts (unsigned_abs result.year) result.month result.day day }
 {

@@ -1,9 +1,11 @@
 // What is printed of a value, and what is read of it.
-ghost use Rattle.std.specs.Prelude.{◌≡◌, ◌≢◌, Some};
+ghost use Rattle.std.specs.Prelude.{◌≡◌, ◌≢◌, ℕ, List, Some};
 ghost use Rattle.dm_text.specs.Printing.{printed};
-ghost use Rattle.dm_types.specs.Ranges.{IsDay, IsInRange, IsText, day_part, the_day};
+ghost use Rattle.dm_types.specs.Ranges.{IsDay, IsInRange, IsText, IsWellFormed, day_part, the_day};
 ghost use Rattle.dm_text.specs.Reading.{text_value};
+ghost use Rattle.dm_types.specs.declared.value.DataType.{DataType as AType};
 ghost use Rattle.dm_types.specs.declared.value.DataType.TheVariants.{Binary};
+ghost use Rattle.dm_types.specs.declared.value.Value.{Value as AValue};
 
 use crate::calendar::date_of;
 use dm_types::{DAY_MICROS, DataType, Value};
@@ -16,6 +18,12 @@ pub fn printed_is_read(value: &Value, kind: &DataType)
     text_is_utf8(value);
     let _ = date_of(day_of(value, kind));
 }
+
+/// A law: what a text reads as is in the range of its type.
+pub fn what_reads_is_in_range()
+    ensures { (kind : AType) (text : List ℕ) (value : AValue) → IsWellFormed kind
+        → text_value kind text ≡ Some value → IsInRange kind value }
+{}
 
 fn text_is_utf8(value: &Value)
     ensures { IsText value.now }

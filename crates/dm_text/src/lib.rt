@@ -11,8 +11,9 @@ mod moments;
 mod printing;
 mod reading;
 
+pub use calendar::date_of;
 pub use fault::TextFault;
 pub use fields::print_field;
-pub use laws::printed_is_read;
+pub use laws::{printed_is_read, what_reads_is_in_range};
 pub use printing::print_value;
 pub use reading::read_value;

@@ -133,7 +133,7 @@ same_decimals p s q r true e true f h = ap (λ z. kind.Decimal z s) (eqb-true p 
 same_decimals p s q r true e false f h = absurd (cc)
 same_decimals p s q r false e u f h = absurd (cc)
 
-same_is : (a b : DataType) → table.is_same a b ≡ true → a ≡ b
+pub same_is : (a b : DataType) → table.is_same a b ≡ true → a ≡ b
 same_is kind.Void kind.Void h = refl
 same_is kind.Boolean kind.Boolean h = refl
 same_is kind.Byte kind.Byte h = refl
@@ -247,7 +247,7 @@ cast_meets place written x = by_kind written.kind
   where
     by_kind : (wanted : WrittenKind) → Meets (judging.cast_type place.start written.span.start wanted (kind_of x)) (form.cast_to place written.span wanted x)
     by_kind (w.BadDecimal precision scale) = alone (broken 11 written.span.start)
-    by_kind (w.Type k) = asks_meets (table.castable (kind_of x) k) 11 place.start k _ (cast_kind k x)
+    by_kind (w.Type k) = if_meets (table.is_type k) _ _ _ _ (asks_meets (table.castable (kind_of x) k) 11 place.start k _ (cast_kind k x)) (alone (broken 11 written.span.start))
 
 -- ---- choices
 
@@ -317,7 +317,7 @@ and_then_some : (k : Option DataType) → option_and_then (λ j. Some j) k ≡ k
 and_then_some None = refl
 and_then_some (Some k) = refl
 
-joint_kind : (bs : List Branch) (otherwise : Option TypedExpr) → form.value_kind bs otherwise ≡ table.common_of (value_kinds bs ++ last_kinds otherwise)
+pub joint_kind : (bs : List Branch) (otherwise : Option TypedExpr) → form.value_kind bs otherwise ≡ table.common_of (value_kinds bs ++ last_kinds otherwise)
 joint_kind bs None = and_then_some (table.common_of (value_kinds bs)) ∙ ap table.common_of (sym (append-nil (value_kinds bs)))
 joint_kind bs (Some x) = sym (fold-append table.with_kind (Some kind.Void) (value_kinds bs) (kind_of x ∷ []))
 

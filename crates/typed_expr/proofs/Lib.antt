@@ -5,3 +5,6 @@ pub mod FormTypes
 pub mod Agreeing
 pub mod Answered
 pub mod Conjuncts
+pub mod TypesGiven
+pub mod FormFits
+pub mod Fitting

@@ -25,7 +25,7 @@ use Rattle.typed_expr.specs.declared.tree.TypedExpr.TheVariants as e
 use Rattle.typed_expr.specs.declared.choice.Branch.{Branch}
 use Rattle.typed_expr.specs.Kinds.{kind_of}
 use Rattle.typed_expr.specs.Rules.{Typing, breaks, given, both, ◌>>=◌}
-use Rattle.typed_expr.specs.Tables.{is_void, is_condition, is_number, is_string, is_dated, is_same, wanted, stands_for, meets, lines_of, by_lines, common, common_of, castable, assignable}
+use Rattle.typed_expr.specs.Tables.{is_void, is_condition, is_number, is_string, is_dated, is_same, wanted, stands_for, meets, lines_of, by_lines, common, common_of, is_type, castable, assignable}
 
 -- the value as one of a type: a cast, where it is of another
 abbrev pub as_kind : DataType → TypedExpr → TypedExpr
@@ -150,9 +150,13 @@ choice at branches otherwise =
 
 -- ---- casts
 
+abbrev pub cast_as : Span → DataType → TypedExpr → Typing TypedExpr
+cast_as place k x = if castable (kind_of x) k then Ok (as_kind k x) else breaks 11 place.start
+
+-- a type that there isn't breaks rule 11 where it stands
 abbrev pub cast_to : Span → Span → WrittenKind → TypedExpr → Typing TypedExpr
 cast_to place type_place (w.BadDecimal precision scale) x = breaks 11 type_place.start
-cast_to place type_place (w.Type k) x = if castable (kind_of x) k then Ok (as_kind k x) else breaks 11 place.start
+cast_to place type_place (w.Type k) x = if is_type k then cast_as place k x else breaks 11 type_place.start
 
 abbrev pub cast : Span → WrittenType → TypedExpr → Typing TypedExpr
 cast place written x = cast_to place written.span written.kind x
@@ -170,7 +174,9 @@ coalesce at xs = given 3 at (common_of (map kind_of xs)) >>= λ k. Ok (e.Coalesc
 
 abbrev pub date_part : ℕ → DatePart → TypedExpr → Typing TypedExpr
 date_part at wanted_part x =
-    if is_dated (kind_of x) || is_void (kind_of x) then Ok (e.Part wanted_part (unless_null kind.Date x)) else breaks 3 at
+    if is_dated (kind_of x) || is_void (kind_of x)
+    then Ok (e.Part wanted_part (unless_null kind.Date x))
+    else breaks 3 at
 
 abbrev pub text_length : ℕ → TypedExpr → Typing TypedExpr
 text_length at x =

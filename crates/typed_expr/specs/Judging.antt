@@ -20,7 +20,7 @@ use Rattle.sql_tree.specs.declared.tree.WrittenKind.{WrittenKind}
 use Rattle.sql_tree.specs.declared.tree.WrittenKind.TheVariants as w
 use Rattle.typed_expr.specs.declared.broken.Broken.{Broken}
 use Rattle.typed_expr.specs.declared.scope.ScopeColumn.{ScopeColumn}
-use Rattle.typed_expr.specs.Tables.{is_void, is_condition, is_number, is_string, is_dated, meets, castable, common_of}
+use Rattle.typed_expr.specs.Tables.{is_void, is_condition, is_number, is_string, is_dated, meets, is_type, castable, common_of}
 use Rattle.typed_expr.specs.Literals.{decimal_kind}
 use Rattle.typed_expr.specs.Columns.{is_named, is_of_two}
 use Rattle.typed_expr.specs.Forms.{is_function, binary_kind}
@@ -118,7 +118,7 @@ values_of (b ∷ bs) (c ∷ v ∷ kinds) = v ∷ values_of bs kinds
 
 abbrev pub cast_type : ℕ → ℕ → WrittenKind → DataType → Verdict
 cast_type at type_at (w.BadDecimal precision scale) a = breaks 11 type_at
-cast_type at type_at (w.Type k) a = asks (castable a k) 11 at k
+cast_type at type_at (w.Type k) a = if is_type k then asks (castable a k) 11 at k else breaks 11 type_at
 
 abbrev pub if_type : ℕ → ℕ → List DataType → Verdict
 if_type at first (c ∷ a ∷ b ∷ []) = choice_type at ((first, c) ∷ []) (a ∷ b ∷ [])

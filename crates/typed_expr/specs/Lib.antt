@@ -9,3 +9,4 @@ pub mod Steps
 pub mod Judging
 pub mod HasType
 pub mod Comes
+pub mod Fits

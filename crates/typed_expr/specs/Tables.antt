@@ -65,6 +65,11 @@ is_same kind.Date kind.Date = true
 is_same kind.Timestamp kind.Timestamp = true
 is_same a b = false
 
+-- a type that there is: a decimal has 1 to 38 digits, and no more of them behind the point
+abbrev pub is_type : DataType → Bool
+is_type (kind.Decimal p s) = nat_le 1 p && nat_le p MAX_PRECISION && nat_le s p
+is_type k = true
+
 -- ---- numbers as decimals
 
 -- the digits of a number of the type: TINYINT, SMALLINT, INT and BIGINT have 3, 5, 10 and 19
@@ -85,16 +90,17 @@ places k = 0
 abbrev pub whole_digits : DataType → ℕ
 whole_digits k = digits k - places k
 
--- a decimal type: at most 38 digits, and no more of them behind the point
+-- a decimal type, where there is one
 abbrev pub decimal : ℕ → ℕ → Option DataType
-decimal p s = if nat_le p MAX_PRECISION && nat_le s p then Some (kind.Decimal p s) else None
+decimal p s = if is_type (kind.Decimal p s) then Some (kind.Decimal p s) else None
 
 -- of two integer types the one of more digits
 abbrev pub wider : DataType → DataType → DataType
 wider a b = if nat_lt (digits a) (digits b) then b else a
 
 abbrev pub sum_type : DataType → DataType → Option DataType
-sum_type a b = decimal (max (whole_digits a) (whole_digits b) + max (places a) (places b) + 1) (max (places a) (places b))
+sum_type a b =
+    decimal (max (whole_digits a) (whole_digits b) + max (places a) (places b) + 1) (max (places a) (places b))
 
 abbrev pub product_type : DataType → DataType → Option DataType
 product_type a b = decimal (digits a + digits b) (places a + places b)

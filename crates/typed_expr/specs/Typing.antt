@@ -20,7 +20,9 @@ pub record Part : Type 0 where
   pub typing : Typing TypedExpr
 
 abbrev pub branch_of : Part × Part → Typing Branch
-branch_of branch = both branch.0.typing branch.1.typing >>= λ p. Ok (record { at = branch.0.start; condition = p.0; value = p.1 })
+branch_of branch =
+    both branch.0.typing branch.1.typing >>= λ p.
+    Ok (record { at = branch.0.start; condition = p.0; value = p.1 })
 
 abbrev pub otherwise_of : Option Part → Typing (Option TypedExpr)
 otherwise_of None = Ok None
@@ -76,7 +78,8 @@ typing scope x = (parted scope x).typing
 
 -- ---- conditions and assignments
 
-abbrev pub operands_of : (TypedExpr → List TypedExpr) → (TypedExpr → List TypedExpr) → TypedExpr → TypedExpr-F TypedExpr → List TypedExpr
+abbrev pub operands_of : (TypedExpr → List TypedExpr) → (TypedExpr → List TypedExpr) → TypedExpr
+    → TypedExpr-F TypedExpr → List TypedExpr
 operands_of x y tree (TypedExpr-F.And a b) = x a ++ y b
 operands_of x y tree layer = tree ∷ []
 

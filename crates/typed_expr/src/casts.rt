@@ -6,7 +6,7 @@ ghost use Rattle.typed_expr.specs.Rules.{Answers};
 
 use crate::broken::refuse;
 use crate::fault::TypeFault;
-use crate::kinds::{is_binary, is_dated, is_number, is_same, is_string, is_void};
+use crate::kinds::{is_binary, is_dated, is_number, is_same, is_string, is_type, is_void};
 use crate::operators::stands_for;
 use crate::tree::TypedExpr;
 use dm_types::DataType;
@@ -56,6 +56,22 @@ fn assignable(from: DataType, to: DataType) -> bool
     is_same(from, to) || castable(from, to) && !is_string(from) && !is_binary(from)
 }
 
+// CAST to a type that there is.
+fn cast_as(
+    alloc: Global,
+    place: Span,
+    kind: DataType,
+    operand: TypedExpr,
+) -> Result<TypedExpr, TypeFault>
+    ensures { Answers (form.cast_as place kind operand) result }
+{
+    if castable(operand.kind(), kind) {
+        Ok(as_kind(alloc, kind, operand)?)
+    } else {
+        refuse(11, place.start)
+    }
+}
+
 // CAST of an operand that has a type.
 pub(crate) fn cast(
     alloc: Global,
@@ -68,10 +84,10 @@ pub(crate) fn cast(
     match written.kind {
         WrittenKind::BadDecimal { .. } => refuse(11, written.span.start),
         WrittenKind::Type(kind) => {
-            if castable(operand.kind(), kind) {
-                Ok(as_kind(alloc, kind, operand)?)
+            if is_type(kind) {
+                cast_as(alloc, place, kind, operand)
             } else {
-                refuse(11, place.start)
+                refuse(11, written.span.start)
             }
         }
     }

@@ -1,5 +1,6 @@
 // What types are, and which go together.
-ghost use Rattle.std.specs.Prelude.{◌≡◌, ◌≤◌};
+ghost use Rattle.std.specs.Prelude.{◌≡◌, ◌≤◌, ◌↔◌, IsTrue};
+ghost use Rattle.dm_types.specs.Ranges.{IsWellFormed};
 ghost use Rattle.typed_expr.specs.Tables as spec;
 
 use dm_types::{DataType, MAX_PRECISION};
@@ -81,6 +82,19 @@ pub(crate) fn is_same(a: DataType, b: DataType) -> bool
     }
 }
 
+/// Whether there is such a type: a decimal has 1 to 38 digits, and no more of them behind the point.
+pub fn is_type(kind: DataType) -> bool
+    ensures value { result ≡ spec.is_type kind }
+    ensures well_formed { IsTrue result ↔ IsWellFormed kind }
+{
+    match kind {
+        DataType::Decimal { precision, scale } => {
+            1 <= precision && precision <= MAX_PRECISION && scale <= precision
+        }
+        _ => true,
+    }
+}
+
 // The digits of a number of the type.
 fn digits(kind: DataType) -> u16
     ensures value { result ≡ spec.digits kind }
@@ -115,11 +129,11 @@ fn whole_digits(kind: DataType) -> u16
     digits(kind).saturating_sub(places(kind))
 }
 
-// A decimal type, where it is one.
+// A decimal type, where there is one.
 pub(crate) fn decimal(precision: u16, scale: u16) -> Option<DataType>
     ensures { result ≡ spec.decimal precision scale }
 {
-    if precision <= u16::from(MAX_PRECISION) && scale <= precision {
+    if 1 <= precision && precision <= u16::from(MAX_PRECISION) && scale <= precision {
         Some(DataType::Decimal {
             precision: precision as u8,
             scale: scale as u8,

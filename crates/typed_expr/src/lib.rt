@@ -18,6 +18,7 @@ mod typing;
 
 pub use broken::Broken;
 pub use fault::TypeFault;
+pub use kinds::is_type;
 pub use scope::{Scope, ScopeColumn};
 pub use tree::{DatePart, Op, TypedBranches, TypedExpr, TypedExprs};
 pub use typing::{type_assignment, type_condition, type_expr};

@@ -1,6 +1,8 @@
 // Types of whole expressions.
 ghost use Rattle.std.specs.Prelude.{◌≡◌, ⊤, ◌++◌, All, IfOk, OnOk, map, Option, true};
+ghost use Rattle.dm_types.specs.Ranges.{IsWellFormed};
 ghost use Rattle.dm_types.specs.declared.value.DataType.{DataType as AType};
+ghost use Rattle.typed_expr.specs.Fits.{Fits, AllFit, AreWellFormed, kinds_in};
 ghost use Rattle.typed_expr.specs.HasType.{HasType, HasTypeThat, Breaks, BreaksUnless, Accepts, TellsSoonest};
 ghost use Rattle.typed_expr.specs.Kinds.{kind_of};
 ghost use Rattle.typed_expr.specs.Tables.{assignable, is_condition};
@@ -20,6 +22,7 @@ use crate::literal::literal;
 use crate::operators::binary;
 use crate::scope::Scope;
 use crate::tree::{TypedExpr, TypedExprs};
+use dm_text::what_reads_is_in_range;
 use dm_types::DataType;
 use sql_tree::{Expr, Name, Operator, Prefix, Span, Truth, WrittenType};
 use sqlite_items::Boxed;
@@ -348,7 +351,10 @@ pub fn type_expr(alloc: Global, scope: &Scope, expr: &Expr) -> Result<TypedExpr,
     ensures has_type { IfOk result (λ tree. HasType scope.now expr.now (kind_of tree)) }
     ensures one_type { (k : AType) → HasType scope.now expr.now k → Accepts (λ tree. kind_of tree ≡ k) result }
     ensures soonest { TellsSoonest (Breaks scope.now expr.now) result }
+    // Over columns of types that there are, it fits their rows.
+    ensures fits { AreWellFormed scope.now → IfOk result (Fits (kinds_in scope.now)) }
 {
+    what_reads_is_in_range();
     judge(alloc, scope, expr)
 }
 
@@ -403,7 +409,9 @@ pub fn type_condition(alloc: Global, scope: &Scope, expr: &Expr) -> Result<Typed
     ensures accepts { HasTypeThat scope.now expr.now is_condition → Accepts (λ all. ⊤) result }
     ensures conditions { IfOk result (All (λ tree. is_condition (kind_of tree) ≡ true)) }
     ensures soonest { TellsSoonest (BreaksUnless scope.now expr.now is_condition 5) result }
+    ensures fits { AreWellFormed scope.now → IfOk result (AllFit (kinds_in scope.now)) }
 {
+    what_reads_is_in_range();
     condition(alloc, scope, expr)
 }
 
@@ -435,6 +443,8 @@ pub fn type_assignment(
     ensures accepts { HasTypeThat scope.now expr.now (λ from. assignable from kind.now) → Accepts (λ tree. ⊤) result }
     ensures of_kind { IfOk result (λ tree. kind_of tree ≡ kind.now) }
     ensures soonest { TellsSoonest (BreaksUnless scope.now expr.now (λ from. assignable from kind.now) 6) result }
+    ensures fits { AreWellFormed scope.now → IsWellFormed kind.now → IfOk result (Fits (kinds_in scope.now)) }
 {
+    what_reads_is_in_range();
     assigned(alloc, scope, expr, *kind)
 }

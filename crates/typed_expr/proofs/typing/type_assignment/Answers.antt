@@ -4,6 +4,7 @@ use Rattle.typed_expr.specs.Kinds.{kind_of}
 use Rattle.typed_expr.specs.Tables.{assignable}
 use Rattle.typed_expr.proofs.Answered.{passes, passes_so, accepts, tells_tested}
 use Rattle.typed_expr.proofs.FormTypes.{cast_kind}
+use Rattle.typed_expr.proofs.Fitting.{assigned_fits}
 use Rattle.typed_expr.proofs.typing.type_assignment.Goals as goal
 
 pub returns-clause-has_type : goal.returns-clause-has_type
@@ -18,3 +19,7 @@ returns-clause-of_kind c =
 
 pub returns-clause-soonest : goal.returns-clause-soonest
 returns-clause-soonest c = tells_tested _ c.args.expr.now (λ from. assignable from c.args.kind.now) 6 (as_kind c.args.kind.now) _ c.assigned.ensures
+
+pub returns-clause-fits : goal.returns-clause-fits
+returns-clause-fits c = λ formed good.
+    assigned_fits c.args.scope.now c.what_reads_is_in_range.ensures formed c.args.expr.now c.args.kind.now good _ c.assigned.ensures
