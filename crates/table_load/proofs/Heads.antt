@@ -1,73 +1,72 @@
--- A state that was loaded, from its commits.
-use Rattle.std.proofs.Common.{◌≡◌, ℕ, List, Option, Some, None, Result, Ok, Err, refl, sym, subst}
+-- The head of a table, from its commits.
+use Rattle.std.proofs.Common.{◌≡◌, ℕ, List, Option, Result, Ok, Err, refl, ◌∙◌}
 use Rattle.dm_store.specs.Files.{Files, WhereTold}
+use Rattle.delta_schema.specs.declared.schema.ColumnDef.{ColumnDef}
+use Rattle.column_mapping.specs.declared.mode.Mode.{Mode}
 use Rattle.dm_types.specs.Then.{go}
-use Rattle.dm_types.specs.declared.refusal.Refused.TheVariants as refused
 use Rattle.dm_types.specs.declared.refusal.Stop.{Stop}
-use Rattle.dm_types.specs.declared.refusal.Stop.TheVariants as stop
 use Rattle.dm_types.specs.declared.refusal.TableRefusal.{TableRefusal}
+use Rattle.log_replay.specs.Replay.{snapshot_of}
 use Rattle.log_replay.specs.declared.commits.Commit.{Commit}
 use Rattle.log_replay.specs.declared.snapshot.Snapshot.{Snapshot}
+use Rattle.table_features.specs.Features.{read_fault}
 use Rattle.table_log.specs.Log.{log_of}
 use Rattle.table_log.specs.Versions.{commits_at}
-use Rattle.table_load.specs.Head.{head_of, head_at}
-use Rattle.table_load.specs.OpenedForWriting.{writable, opened_to_write}
+use Rattle.table_load.specs.Head.{columns_in, head_at, head_of, mode_in, readable, state_of, unless_fault, with_columns}
 use Rattle.table_load.specs.StepsLoading.{Gives}
 use Rattle.table_load.specs.Tells.{Tells}
+use Rattle.table_load.specs.declared.head.Head.{Head}
+use Rattle.table_load.proofs.InTurn.{gives_same, gives_stops, goes_on, tells_follows, tells_stops, told}
 
--- a refusal decides what follows it
+-- ---- over files
 
-stops : {A B : Type 0} (told : Option Files) (first : Files → Result A TableRefusal) (next : A → Result B TableRefusal) (why : Stop) → Tells told first (Err why) → Tells {A = B} told (λ files. go (first files) next) (Err why)
-stops None first next (stop.Refused (refused.Table refusal)) here = tt
-stops (Some files) first next (stop.Refused (refused.Table refusal)) here = rw here refl
-stops told first next (stop.Refused (refused.Statement refusal)) here = here
-stops told first next (stop.Refused (refused.Put refusal)) here = here
-stops told first next stop.Store here = tt
-stops told first next stop.Names here = here
-stops told first next stop.Memory here = tt
-
--- what follows a value gives the answer
-
-follows : {A B : Type 0} (told : Option Files) (first : Files → Result A TableRefusal) (next : A → Result B TableRefusal) (value : A) (answer : Result B Stop) → WhereTold told (λ files. first files ≡ Ok value) → Gives (next value) answer → Tells told (λ files. go (first files) next) answer
-follows None first next value (Ok found) here gives = tt
-follows None first next value (Err (stop.Refused (refused.Table refusal))) here gives = tt
-follows (Some files) first next value (Ok found) here gives = rw here gives
-follows (Some files) first next value (Err (stop.Refused (refused.Table refusal))) here gives = rw here gives
-follows told first next value (Err (stop.Refused (refused.Statement refusal))) here gives = gives
-follows told first next value (Err (stop.Refused (refused.Put refusal))) here gives = gives
-follows told first next value (Err stop.Store) here gives = tt
-follows told first next value (Err stop.Names) here gives = gives
-follows told first next value (Err stop.Memory) here gives = tt
-
-pub head_stops : (told : Option Files) (table : List ℕ) (asked : Option ℕ) (why : Stop) (answer : Result Snapshot Stop) → answer ≡ Err why → Tells told (λ files. commits_at asked (log_of table files)) (Err why) → Tells told (λ files. head_at asked (log_of table files)) answer
+pub head_stops : (files : Option Files) (table : List ℕ) (asked : Option ℕ) (why : Stop) (answer : Result Head Stop) → answer ≡ Err why → Tells files (λ all. commits_at asked (log_of table all)) (Err why) → Tells files (λ all. head_at asked (log_of table all)) answer
 unfolding head_at
-head_stops told table asked why answer is here = subst (λ (r : Result Snapshot Stop). Tells told (λ files. go (commits_at asked (log_of table files)) head_of) r) (sym is) (stops told (λ files. commits_at asked (log_of table files)) head_of why here)
+head_stops files table asked why answer is here = tells_stops (List Commit) Head (λ value. value) (λ value. value) files (λ all. commits_at asked (log_of table all)) (λ _. head_of) why answer here is
 
-pub head_follows : (told : Option Files) (table : List ℕ) (asked : Option ℕ) (commits : List Commit) (answer : Result Snapshot Stop) → WhereTold told (λ files. commits_at asked (log_of table files) ≡ Ok commits) → Gives (head_of commits) answer → Tells told (λ files. head_at asked (log_of table files)) answer
+pub head_follows : (files : Option Files) (table : List ℕ) (asked : Option ℕ) (commits : List Commit) (answer : Result Head Stop) → WhereTold files (λ all. commits_at asked (log_of table all) ≡ Ok commits) → Gives (head_of commits) answer → Tells files (λ all. head_at asked (log_of table all)) answer
 unfolding head_at
-head_follows told table asked commits answer here gives = follows told (λ files. commits_at asked (log_of table files)) head_of commits answer here gives
+head_follows files table asked commits answer here gives =
+    tells_follows Head (λ value. value) files files (λ all. commits_at asked (log_of table all)) (λ _. head_of) commits answer refl here (told Head (λ value. value) files (head_of commits) answer gives)
 
--- a state that may be written
+-- ---- its columns
 
-pub open_stops : (told : Option Files) (table : List ℕ) (why : Stop) (answer : Result Snapshot Stop) → answer ≡ Err why → Tells told (λ files. head_at None (log_of table files)) (Err why) → Tells told (λ files. opened_to_write (log_of table files)) answer
-unfolding opened_to_write
-open_stops told table why answer is here = subst (λ (r : Result Snapshot Stop). Tells told (λ files. go (head_at None (log_of table files)) (λ found. go (writable found) (λ _. Ok found))) r) (sym is) (stops told (λ files. head_at None (log_of table files)) (λ found. go (writable found) (λ _. Ok found)) why here)
+abbrev moded : Snapshot → List ColumnDef → Result Head TableRefusal
+moded table columns = go (mode_in table columns) (λ mode. Ok (record { snapshot = table; schema = columns; mode = mode }))
 
-checked : (found : Snapshot) (why : Stop) → Gives (writable found) (Err why) → Gives (go (writable found) (λ _. Ok found)) (Err why)
-checked found (stop.Refused (refused.Table refusal)) gives = rw gives refl
-checked found (stop.Refused (refused.Statement refusal)) gives = gives
-checked found (stop.Refused (refused.Put refusal)) gives = gives
-checked found stop.Store gives = gives
-checked found stop.Names gives = gives
-checked found stop.Memory gives = tt
+columns_are : (table : Snapshot) → with_columns table ≡ go (columns_in table) (moded table)
+unfolding with_columns
+columns_are table = refl
 
-pub open_refuses : (told : Option Files) (table : List ℕ) (found : Snapshot) (why : Stop) (answer : Result Snapshot Stop) → answer ≡ Err why → WhereTold told (λ files. head_at None (log_of table files) ≡ Ok found) → Gives (writable found) (Err why) → Tells told (λ files. opened_to_write (log_of table files)) answer
-unfolding opened_to_write
-open_refuses told table found why answer is here gives =
-    subst (λ (r : Result Snapshot Stop). Tells told (λ files. go (head_at None (log_of table files)) (λ found. go (writable found) (λ _. Ok found))) r) (sym is)
-    (follows told (λ files. head_at None (log_of table files)) (λ found. go (writable found) (λ _. Ok found)) found (Err why) here (checked found why gives))
+pub no_columns : (table : Snapshot) (why : Stop) (answer : Result Head Stop) → answer ≡ Err why → Gives (columns_in table) (Err why) → Gives (with_columns table) answer
+no_columns table why answer is gives = gives_stops (List ColumnDef) Head (λ value. value) (λ value. value) (columns_in table) (moded table) (with_columns table) why answer (columns_are table) gives is
 
-pub opens : (told : Option Files) (table : List ℕ) (found : Snapshot) → WhereTold told (λ files. head_at None (log_of table files) ≡ Ok found) → writable found ≡ Ok tt → WhereTold told (λ files. opened_to_write (log_of table files) ≡ Ok found)
-unfolding opened_to_write
-opens None table found here passes = tt
-opens (Some files) table found here passes = rw (here, passes) refl
+behind_columns : (table : Snapshot) (columns : List ColumnDef) → columns_in table ≡ Ok columns → with_columns table ≡ moded table columns
+behind_columns table columns read = columns_are table ∙ goes_on (columns_in table) (moded table) columns read
+
+pub no_mode : (table : Snapshot) (columns : List ColumnDef) (why : Stop) (answer : Result Head Stop) → answer ≡ Err why → columns_in table ≡ Ok columns → Gives (mode_in table columns) (Err why) → Gives (with_columns table) answer
+no_mode table columns why answer is read gives =
+    gives_stops Mode Head (λ value. value) (λ value. value) (mode_in table columns) (λ mode. Ok (record { snapshot = table; schema = columns; mode = mode })) (with_columns table) why answer (behind_columns table columns read) gives is
+
+pub has_columns : (table : Snapshot) (columns : List ColumnDef) (mode : Mode) → columns_in table ≡ Ok columns → mode_in table columns ≡ Ok mode → with_columns table ≡ Ok (record { snapshot = table; schema = columns; mode = mode })
+has_columns table columns mode read mapped = behind_columns table columns read ∙ goes_on (mode_in table columns) (λ m. Ok (record { snapshot = table; schema = columns; mode = m })) mode mapped
+
+-- ---- its state
+
+abbrev read_and_columned : Snapshot → Result Head TableRefusal
+read_and_columned table = go (readable table) with_columns
+
+pub no_state : (commits : List Commit) (why : Stop) (answer : Result Head Stop) → answer ≡ Err why → Gives (state_of (snapshot_of commits)) (Err why) → Gives (head_of commits) answer
+no_state commits why answer is gives = gives_stops Snapshot Head (λ value. value) (λ value. value) (state_of (snapshot_of commits)) read_and_columned (head_of commits) why answer refl gives is
+
+readable_stops : (table : Snapshot) (why : Stop) (answer : Result Snapshot Stop) → answer ≡ Err why → Gives (unless_fault table.protocol (read_fault table.protocol)) (Err why) → Gives (readable table) answer
+readable_stops table why answer is gives = gives_stops (Unit {0}) Snapshot (λ value. value) (λ value. value) (unless_fault table.protocol (read_fault table.protocol)) (λ _. Ok table) (readable table) why answer refl gives is
+
+pub unreadable : (commits : List Commit) (table : Snapshot) (why : Stop) (answer : Result Head Stop) → answer ≡ Err why → state_of (snapshot_of commits) ≡ Ok table → Gives (unless_fault table.protocol (read_fault table.protocol)) (Err why) → Gives (head_of commits) answer
+unreadable commits table why answer is known gives =
+    gives_stops Snapshot Head (λ value. value) (λ value. value) (readable table) with_columns (head_of commits) why answer (goes_on (state_of (snapshot_of commits)) read_and_columned table known) (readable_stops table why (Err why) refl gives) is
+
+pub headed : (commits : List Commit) (table : Snapshot) (answer : Result Head Stop) → state_of (snapshot_of commits) ≡ Ok table → unless_fault table.protocol (read_fault table.protocol) ≡ Ok tt → Gives (with_columns table) answer → Gives (head_of commits) answer
+headed commits table answer known permits gives =
+    let read : readable table ≡ Ok table = goes_on (unless_fault table.protocol (read_fault table.protocol)) (λ _. Ok table) tt permits in
+    gives_same Head (λ value. value) (with_columns table) (head_of commits) answer (goes_on (state_of (snapshot_of commits)) read_and_columned table known ∙ goes_on (readable table) with_columns table read) gives

@@ -1,4 +1,17 @@
 mod Checking
+mod Following
+mod Frames
 mod Heads
+mod IdsSaid
+mod InTurn
+mod Joining
+mod LonePart
 mod Member
+mod PartRead
+mod Opening
+mod Paths
+mod Plain
+mod Ranged
 mod Reading
+mod Steady
+mod WithFile

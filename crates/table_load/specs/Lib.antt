@@ -2,4 +2,9 @@ pub mod Tells
 pub mod StepsLoading
 pub mod Properties
 pub mod Head
+pub mod Files
+pub mod StepsFiles
+pub mod Held
 pub mod OpenedForWriting
+pub mod Loaded
+pub mod Agree

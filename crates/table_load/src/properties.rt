@@ -1,6 +1,7 @@
 // The properties of a table.
-ghost use Rattle.std.specs.Prelude.{◌≡◌};
+ghost use Rattle.std.specs.Prelude.{◌≡◌, find, option_map};
 ghost use Rattle.std.specs.List.{list_any};
+ghost use Rattle.std.specs.Option.{option_copied};
 ghost use Rattle.std.specs.Str.{bytes_eq};
 ghost use Rattle.table_load.specs.Properties as spec;
 
@@ -29,6 +30,27 @@ fn is_true_in(pairs: &[(Text, Text)], name: &str) -> bool
         rest = more;
     }
     false
+}
+
+/// The text of a property of the table, if it has it.
+pub fn property<'a>(table: &'a Snapshot, name: &str) -> Option<&'a Text>
+    ensures { option_copied result ≡ spec.property table.entry.now name.now }
+{
+    match &table.metadata.configuration {
+        Some(pairs) => text_under(pairs.as_slice(), name),
+        None => None,
+    }
+}
+
+// The text under a name.
+fn text_under<'a>(pairs: &'a [(Text, Text)], name: &str) -> Option<&'a Text>
+    ensures { option_copied result
+        ≡ option_map (λ pair. pair.1) (find (λ pair. bytes_eq pair.0 name.now) pairs.entry.now) }
+{
+    match pairs.iter().find(|pair| pair.0.as_str() == name) {
+        Some(pair) => Some(&pair.1),
+        None => None,
+    }
 }
 
 /// Whether the rows of the table have ids: `delta.enableRowTracking` is `true`, and `rowTracking` is

@@ -27,7 +27,7 @@ use Rattle.delta_actions.specs.declared.action.ProtocolAction.{ProtocolAction}
 use Rattle.delta_actions.specs.declared.action.Action.{Action}
 use Rattle.delta_actions.specs.declared.action.Action.TheVariants as action
 use Rattle.log_replay.specs.Changes.{removes}
-use Rattle.log_replay.specs.Force.{in_force, metadata_in, protocol_in, mark_in_force, fallen}
+use Rattle.log_replay.specs.Force.{metadata_in, protocol_in, tracking_in, in_force, mark_in_force, fallen}
 use Rattle.log_replay.specs.Live.{AreNumbered, live_adds, paths_of, is_add, is_of, numbered}
 use Rattle.log_replay.specs.Replay.{snapshot_of}
 use Rattle.log_replay.specs.declared.commits.Commit.{Commit}
@@ -36,11 +36,19 @@ use Rattle.table_features.specs.Features.{read_fault, write_fault}
 use Rattle.table_log.specs.Agree.{AreUnseen, said_at, FrameNext, SaysNext, NextIsAbsent}
 use Rattle.table_log.specs.Log.{Log, log_of, commit_path, bytes_of}
 use Rattle.table_log.specs.Versions.{newest_version, commits_at, commits_below, commit_at, actions_in, good_lines}
-use Rattle.table_load.specs.Head.{head_at, head_of, state_of, readable, unless_fault}
-use Rattle.table_load.specs.OpenedForWriting.{opened_to_write, writable, without_vectors, has_room}
+use Rattle.table_load.specs.Files.{Look, live_files}
+use Rattle.table_load.specs.Head.{columns_in, head_at, head_of, mode_in, state_of, readable, unless_fault, with_columns}
+use Rattle.table_load.specs.Agree.{HeldBesideNext, HeldElsewhere}
+use Rattle.table_load.specs.Held.{Opened, held, opened, opened_at, sound_ids, state_of as state_behind_it}
+use Rattle.table_load.specs.Loaded.{opened_for}
+use Rattle.table_load.specs.OpenedForWriting.{has_room, writable}
+use Rattle.table_load.specs.declared.head.Head.{Head}
+use Rattle.table_load.specs.declared.loaded.Purpose.TheVariants as purpose
+use Rattle.table_load.specs.declared.opened_for_writing.TheConstants.{MAX_COMMITS}
 use Rattle.commit_log.specs.Block.{files_of, block_of, commit_file}
 use Rattle.commit_log.specs.Commits.{AllPut, SomePut, ReadsBack}
 use Rattle.commit_log.specs.declared.new_files.NewFiles.{NewFiles}
+use Rattle.table_write.proofs.EmptyState.{IsSilent, WasOpened, held_before, held_empty, nothing_said}
 use Rattle.table_write.specs.Delete.{changeable, deletable, delete_actions, deletion, delete_from}
 use Rattle.table_write.specs.Emptied.{DeletesAll, DeleteEmpties, LeavesFiles, DeleteStands}
 use Rattle.table_write.specs.Outside.{Outside}
@@ -65,58 +73,90 @@ readable_same : (table found : Snapshot) → readable table ≡ Ok found → fou
 readable_same table found e = let (u, first, second) = went (unless_fault table.protocol (read_fault table.protocol)) (λ _. Ok table) found e in cc
 
 room_from : (newest : ℕ) → has_room newest ≡ Ok tt → newest + 1 < 2 ^ 63
-room_from newest e = by (nat_lt (newest + 1) (2 ^ 63)) refl
+room_from newest e = by (nat_lt (newest + 1) MAX_COMMITS) refl
   where
-    by : (test : Bool) → nat_lt (newest + 1) (2 ^ 63) ≡ test → newest + 1 < 2 ^ 63
+    by : (test : Bool) → nat_lt (newest + 1) MAX_COMMITS ≡ test → newest + 1 < 2 ^ 63
     by true is = grind (arith, nat_tests)
     by false is = let refused : cond false (Ok tt) (Err (refusal.TooLarge counted.Commits)) ≡ Ok tt = subst (λ (b : Bool). cond b (Ok tt) (Err (refusal.TooLarge counted.Commits)) ≡ Ok tt) is e in cc
 
--- the log of a table whose rows were deleted: its newest version and its commits, and the state that they say
-pub record WasOpen (log : Log) (table : Snapshot) : Type 0 where
+-- a table whose rows were deleted, as it was opened
+pub record WasOpen (folder : List ℕ) (files : Files) (table : Snapshot) : Type 0 where
+  pub it : Opened
   pub newest : ℕ
   pub commits : List Commit
-  pub was : newest_version log ≡ Ok newest
-  pub read : commits_below log (newest + 1) ≡ Ok commits
+  pub opened : WasOpened folder files it newest commits
+  pub snapshot : it.head.snapshot ≡ table
   pub state : snapshot_of commits ≡ Some table
-  pub plain : without_vectors table.live ≡ Ok tt
+  pub plain : AllByRecursion (λ (add : AddAction). add.deletion_vector ≡ false) table.live
   pub room : table.version + 1 < 2 ^ 63
 
-was_writable : (table : Snapshot) → writable table ≡ Ok tt → (without_vectors table.live ≡ Ok tt) × (table.version + 1 < 2 ^ 63)
+was_writable : (table : Snapshot) → writable table ≡ Ok tt → table.version + 1 < 2 ^ 63
 unfolding writable
 was_writable table e =
-    let (u, plain, more) = went (without_vectors table.live) _ tt e in
-    let (v, written, rest) = went (unless_fault table.protocol (write_fault table.protocol)) _ tt more in
+    let (v, written, rest) = went (unless_fault table.protocol (write_fault table.protocol)) _ tt e in
     let (w, room, rules) = went (has_room table.version) _ tt rest in
-    (plain, room_from table.version room)
+    room_from table.version room
 
-opened : (log : Log) (table : Snapshot) → opened_to_write log ≡ Ok table → WasOpen log table
-unfolding opened_to_write head_at commits_at
-opened log table e =
-    let (found, head, checks) = went (head_at None log) _ table e in
-    let (u, passes, same) = went (writable found) (λ _. Ok found) table checks in
-    let (commits, read, behind) = went (commits_at None log) head_of found head in
-    let (newest, was, below) = went (newest_version log) _ commits read in
-    let (state, known, permitted) = went (state_of (snapshot_of commits)) readable found behind in
-    let is : found ≡ table = cc in
-    let same_state : found ≡ state = readable_same state found permitted in
-    let ok = was_writable found passes in
+headed : (table : Snapshot) (head : Head) → with_columns table ≡ Ok head → head.snapshot ≡ table
+unfolding with_columns
+headed table head e =
+    let (columns, read, more) = went (columns_in table) _ head e in
+    let (mode, mapped, same) = went (mode_in table columns) (λ mode. Ok (record { snapshot = table; schema = columns; mode = mode })) head more in
+    let is : ◌≡◌ {A = Head} (record { snapshot = table; schema = columns; mode = mode }) head = cc in
+    sym (ap (λ (h : Head). h.snapshot) is)
+
+state_behind : (commits : List Commit) (head : Head) → head_of commits ≡ Ok head → snapshot_of commits ≡ Some head.snapshot
+state_behind commits head e =
+    let (state, known, more) = went (state_of (snapshot_of commits)) _ head e in
+    let (found, permitted, columned) = went (readable state) with_columns head more in
+    state_from (snapshot_of commits) state known ∙ ap Some (sym (readable_same state found permitted) ∙ sym (headed found head columned))
+
+-- what was looked at when it was opened
+record Looked (folder : List ℕ) (files : Files) (it : Opened) : Type 0 where
+  head : head_at None (log_of folder files) ≡ Ok it.head
+  sound : sound_ids it.head.snapshot it.ids ≡ Ok tt
+
+looked : (folder : List ℕ) (files : Files) (it : Opened) → opened_at folder None files ≡ Ok it → Looked folder files it
+unfolding opened_at
+looked folder files it e =
+    let look : Look = λ path. lookup path files in
+    let (head, at, more) = went (head_at None (log_of folder files)) _ it e in
+    let (all, read, checks) = went (live_files look folder head) _ it more in
+    let (u, sound, same) = went (sound_ids head.snapshot all.ids) (λ _. Ok (opened head all)) it checks in
+    let is : opened head all ≡ it = cc in
+    subst (λ (o : Opened). Looked folder files o) is (record { head = at; sound = sound })
+
+abbrev pub FilesArePlain : Type 0
+FilesArePlain = (folder : List ℕ) (asked : Option ℕ) (files : Files) (it : Opened) → opened_at folder asked files ≡ Ok it → All (λ (add : AddAction). add.deletion_vector ≡ false) it.head.snapshot.live
+
+opened_was : FilesArePlain → (folder : List ℕ) (files : Files) (it : Opened) → opened_for purpose.Write folder None files ≡ Ok it → WasOpen folder files it.head.snapshot
+unfolding opened_for head_at commits_at
+opened_was plain folder files it e =
+    let (found, at, checks) = went (opened_at folder None files) _ it e in
+    let (u, passes, same) = went (writable found.head.snapshot) (λ _. Ok found) it checks in
+    let is : found ≡ it = cc in
+    let here : opened_at folder None files ≡ Ok it = at ∙ ap Ok is in
+    let seen = looked folder files it here in
+    let (commits, read, behind) = went (commits_at None (log_of folder files)) head_of it.head seen.head in
+    let (newest, was, below) = went (newest_version (log_of folder files)) _ commits read in
     record {
+      it = it;
       newest = newest;
       commits = commits;
-      was = was;
-      read = below;
-      state = state_from (snapshot_of commits) state known ∙ ap Some (sym same_state ∙ is);
-      plain = subst (λ (s : Snapshot). without_vectors s.live ≡ Ok tt) is ok.0;
-      room = subst (λ (s : Snapshot). s.version + 1 < 2 ^ 63) is ok.1;
+      opened = record { was = was; read = below; head = behind; sound = seen.sound; answer = here };
+      snapshot = refl;
+      state = state_behind commits it.head behind;
+      plain = recursion_from_All (λ (add : AddAction). add.deletion_vector ≡ false) it.head.snapshot.live (plain folder None files it here);
+      room = subst (λ (o : Opened). o.head.snapshot.version + 1 < 2 ^ 63) is (was_writable found.head.snapshot passes);
     }
 
-deleted_from : (folder : List ℕ) (files : Files) (table : Snapshot) → deletable folder files ≡ Ok table → WasOpen (log_of folder files) table
+deleted_from : FilesArePlain → (folder : List ℕ) (files : Files) (table : Snapshot) → deletable folder files ≡ Ok table → WasOpen folder files table
 unfolding deletable
-deleted_from folder files table e =
-    let (found, opens, checks) = went (of_table (opened_to_write (log_of folder files))) _ table e in
-    let (u, passes, same) = went (of_statement (changeable found)) (λ _. Ok found) table checks in
-    let is : found ≡ table = cc in
-    subst (λ (s : Snapshot). WasOpen (log_of folder files) s) is (opened (log_of folder files) found (table_passed (opened_to_write (log_of folder files)) found opens))
+deleted_from plain folder files table e =
+    let (found, opens, checks) = went (of_table (opened_for purpose.Write folder None files)) _ table e in
+    let (u, passes, same) = went (of_statement (changeable found.head.snapshot)) (λ _. Ok found.head.snapshot) table checks in
+    let is : found.head.snapshot ≡ table = cc in
+    subst (λ (t : Snapshot). WasOpen folder files t) is (opened_was plain folder files found (table_passed (opened_for purpose.Write folder None files) found opens))
 
 -- ---- the commits that were read
 
@@ -171,15 +211,6 @@ state_is commits table e =
     let (metadata, protocol, is) = from_parts (in_force metadata_in commits) (in_force protocol_in commits) make table e in
     (ap (λ (s : Snapshot). s.version) (sym is), ap (λ (s : Snapshot). s.live) (sym is))
 
-no_vectors : (live : List AddAction) → without_vectors live ≡ Ok tt → AllByRecursion (λ (add : AddAction). add.deletion_vector ≡ false) live
-unfolding without_vectors
-no_vectors [] e = tt
-no_vectors (add ∷ more) e = by add.deletion_vector refl (no_vectors more)
-  where
-    by : (has : Bool) → add.deletion_vector ≡ has → (without_vectors more ≡ Ok tt → AllByRecursion (λ (a : AddAction). a.deletion_vector ≡ false) more) → AllByRecursion (λ (a : AddAction). a.deletion_vector ≡ false) (add ∷ more)
-    by true is rest = let refused : cond true (Err (refusal.DeletionVector add.path)) (without_vectors more) ≡ Ok tt = subst (λ (b : Bool). cond b (Err (refusal.DeletionVector add.path)) (without_vectors more) ≡ Ok tt) is e in absurd cc
-    by false is rest = (is, rest (subst (λ (b : Bool). cond b (Err (refusal.DeletionVector add.path)) (without_vectors more) ≡ Ok tt) is e))
-
 -- ---- the actions of a DELETE
 
 values_ordered : (values : Option (List (List ℕ × Option (List ℕ)))) → IfSome values AreOrdered → AreOrdered (unwrap_or values [])
@@ -226,6 +257,16 @@ pub record Laws : Type 0 where
   pub removal : RemovalOfAll
   pub next : FrameNext
   pub says : SaysNext
+  pub plain : FilesArePlain
+  pub beside : HeldBesideNext
+  pub elsewhere : HeldElsewhere
+
+silent : (table : Snapshot) (time : ℤ) → IsSilent (delete_actions table time)
+silent table time = record {
+  metadata = rw (nothing_said metadata_in time table.live (λ add. refl)) refl;
+  protocol = rw (nothing_said protocol_in time table.live (λ add. refl)) refl;
+  tracking = rw (nothing_said tracking_in time table.live (λ add. refl)) refl;
+}
 
 actions_writable : (time : ℤ) (table : Snapshot) → AllByRecursion (λ (add : AddAction). HasForm (action.Add add)) table.live → AllByRecursion (λ (add : AddAction). add.deletion_vector ≡ false) table.live → AreWritable (delete_actions table time)
 actions_writable time table forms plain = All-from_recursion IsWritable (delete_actions table time) ((tt, tt), removals_writable time table.live forms plain)
@@ -242,29 +283,39 @@ said_newest log newest commits was read =
 
 pub emptied : Laws → (folder text : List ℕ) (files : Files) (table : Snapshot) (time : ℤ) → deletable folder files ≡ Ok table → ReadsBack (deletion folder table time) → text ≡ version_line (table.version + 1) → DeletesAll folder files (files ++ block_of (deletion folder table time)) text
 emptied laws folder text files table time passed built line =
-    let was = deleted_from folder files table passed in
-    let read = were_read (log_of folder files) (was.newest + 1) was.commits laws.numbers laws.forms was.read in
+    let was = deleted_from laws.plain folder files table passed in
+    let read = were_read (log_of folder files) (was.newest + 1) was.commits laws.numbers laws.forms was.opened.read in
     let state = state_is was.commits table was.state in
     let newest_is : table.version ≡ was.newest = omega (arith, state.0, read.long) in
     let forms = laws.live was.commits (All-from_recursion (λ (commit : Commit). All HasForm commit.actions) was.commits read.formed) in
     let live_forms : AllByRecursion (λ (add : AddAction). HasForm (action.Add add)) table.live = subst (λ (live : List AddAction). AllByRecursion (λ (add : AddAction). HasForm (action.Add add)) live) (sym state.1) (recursion_from_All (λ (add : AddAction). HasForm (action.Add add)) (live_adds was.commits) forms) in
     let actions = delete_actions table time in
     let bytes = commit_text actions in
-    let back : commit_of bytes ≡ Ok actions = built (actions_writable time table live_forms (no_vectors table.live was.plain)) in
+    let back : commit_of bytes ≡ Ok actions = built (actions_writable time table live_forms was.plain) in
     let unseen : AreUnseen [] = record { each = tt } in
     let fits : was.newest + 1 < 2 ^ 63 = omega (arith, newest_is, was.room) in
     let now : files ++ block_of (deletion folder table time) ≡ files ++ ([] ++ (commit_path folder (was.newest + 1), bytes) ∷ []) = ap (λ (fs : Files). files ++ (fs ++ (commit_path folder (table.version + 1), bytes) ∷ [])) (files_none folder table time) ∙ ap (λ (n : ℕ). files ++ ([] ++ (commit_path folder (n + 1), bytes) ∷ [])) newest_is in
-    let said : said_at folder was.newest files ≡ Ok was.commits = said_newest (log_of folder files) was.newest was.commits was.was was.read in
+    let said : said_at folder was.newest files ≡ Ok was.commits = said_newest (log_of folder files) was.newest was.commits was.opened.was was.opened.read in
     let paths : AllByRecursion (λ path. removes actions path ≡ true) (paths_of (live_adds was.commits)) = subst (λ (live : List AddAction). AllByRecursion (λ path. removes actions path ≡ true) (paths_of live)) state.1 (behind (action.Info (record { operation = codes "DELETE"; timestamp = time })) (map (λ add. action.Remove (removal_of time add)) table.live) (map (λ (a : AddAction). a.path) table.live) (removes_each time table.live)) in
+    let commit = numbered (was.newest + 1) actions in
+    let next = files ++ ([] ++ (commit_path folder (was.newest + 1), bytes) ∷ []) in
+    let says : said_at folder (was.newest + 1) next ≡ Ok (was.commits ++ commit ∷ []) = laws.says files [] folder was.newest bytes unseen fits was.opened.was ∙ rw (said, back) refl in
+    let none : live_adds (was.commits ++ commit ∷ []) ≡ [] = laws.removal was.commits commit read.in_turn (sym read.long) (All-from_recursion (λ a. is_add a ≡ false) actions (refl, adds_nothing time table.live)) (All-from_recursion (λ path. removes actions path ≡ true) (paths_of (live_adds was.commits)) paths) in
+    let version_is : was.it.head.snapshot.version ≡ was.newest = ap (λ (t : Snapshot). t.version) was.snapshot ∙ newest_is in
     subst (λ (fs : Files). DeletesAll folder files fs text) (sym now) (record {
       newest = was.newest;
+      before = state_behind_it was.it;
+      held_before = held_before folder files was.it was.newest was.commits was.opened;
+      empty = subst (λ (n : ℕ). held folder (was.newest + 1) next ≡ Ok (record (state_behind_it was.it) { version = n + 1; rows = [] })) version_is (held_empty folder files next was.it was.newest was.commits commit was.opened (silent table time) none read.long says);
+      stay = λ version other. laws.beside files [] folder was.newest bytes unseen fits was.opened.was version other;
+      elsewhere = λ other version apart. laws.elsewhere files [] folder was.newest bytes unseen fits was.opened.was other version apart;
       commits = was.commits;
       actions = actions;
-      was = was.was;
+      was = was.opened.was;
       said = said;
-      says = laws.says files [] folder was.newest bytes unseen fits was.was ∙ rw (said, back) refl;
-      none = laws.removal was.commits (numbered (was.newest + 1) actions) read.in_turn (sym read.long) (All-from_recursion (λ a. is_add a ≡ false) actions (refl, adds_nothing time table.live)) (All-from_recursion (λ path. removes actions path ≡ true) (paths_of (live_adds was.commits)) paths);
-      others = laws.next files [] folder was.newest bytes unseen fits was.was;
+      says = says;
+      none = none;
+      others = laws.next files [] folder was.newest bytes unseen fits was.opened.was;
       line = line ∙ ap (λ (n : ℕ). version_line (n + 1)) newest_is;
     })
 
@@ -352,13 +403,13 @@ never_overtaken absent laws folder files old version new is taken =
     let table = taken.made.plan in
     let same : taken.fresh ≡ deletion folder table taken.made.time = taken.made.made in
     let passed = passed_told old.files files folder table is taken.made.passed in
-    let was = deleted_from folder files table passed in
-    let read = were_read (log_of folder files) (was.newest + 1) was.commits laws.numbers laws.forms was.read in
+    let was = deleted_from laws.plain folder files table passed in
+    let read = were_read (log_of folder files) (was.newest + 1) was.commits laws.numbers laws.forms was.opened.read in
     let state = state_is was.commits table was.state in
     let newest_is : table.version ≡ was.newest = omega (arith, state.0, read.long) in
     let fits : was.newest + 1 < 2 ^ 63 = omega (arith, newest_is, was.room) in
     let there : IsPresent (commit_path folder (table.version + 1)) (Some files) = subst (λ (o : Option Files). IsPresent (commit_path folder (table.version + 1)) o) is (subst (λ (f : NewFiles). IsPresent (commit_path f.table f.version) old.files) same taken.overtaken.there) in
-    there (ap (λ (n : ℕ). lookup (commit_path folder (n + 1)) files) newest_is ∙ absent files folder was.newest fits was.was)
+    there (ap (λ (n : ℕ). lookup (commit_path folder (n + 1)) files) newest_is ∙ absent files folder was.newest fits was.opened.was)
 
 pub stands : NextIsAbsent → Laws → DeleteStands
 stands absent laws folder old new files (stop.Refused (refused.Table refusal)) is (checked, same) = leaves folder files (stop.Refused (refused.Table refusal)) new (untouched folder files old new is same) (λ r e. cc)

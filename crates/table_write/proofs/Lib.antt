@@ -1,2 +1,3 @@
 mod Deleted
+mod EmptyState
 mod Written

@@ -1,5 +1,6 @@
 -- What a write statement leaves, step by step.
 use Rattle.std.proofs.Common.{◌≡◌, ℕ, ℤ, List, [], Option, Some, None, Result, Ok, Err, inl, inr, refl, ap, sym, subst, append-nil}
+use Rattle.std.specs.Result.{IsErrAnd}
 use Rattle.dm_store.specs.Files.{Files, WhereTold}
 use Rattle.dm_store.specs.Given.{Gave}
 use Rattle.dm_types.specs.declared.refusal.Refused.TheVariants as refused
@@ -15,9 +16,10 @@ use Rattle.commit_log.specs.Commits.{AllPut, Commits, IsBuilt, CommitTaken, stop
 use Rattle.commit_log.specs.declared.fault.CommitFault.{CommitFault}
 use Rattle.commit_log.specs.declared.fault.CommitFault.TheVariants as fault
 use Rattle.commit_log.specs.declared.new_files.NewFiles.{NewFiles}
-use Rattle.table_load.specs.OpenedForWriting.{opened_to_write}
-use Rattle.table_load.specs.Tells.{Tells}
-use Rattle.table_log.specs.Log.{log_of}
+use Rattle.table_load.specs.Loaded.{opened_for, seen}
+use Rattle.table_load.specs.Tells.{TellsAs}
+use Rattle.table_load.specs.declared.loaded.Loaded.{Loaded}
+use Rattle.table_load.specs.declared.loaded.Purpose.TheVariants as purpose
 use Rattle.table_write.specs.Delete.{changeable, deletable, deletion, delete_from}
 use Rattle.table_write.specs.Outside.{outside}
 use Rattle.table_write.specs.StepsWriting.{TellsPlan, DrawsName, PutsVersion}
@@ -25,7 +27,7 @@ use Rattle.table_write.specs.Writing.{Write, IsMade, CarriesOut}
 
 -- ---- the checks of DELETE
 
-deletable_refused : (told : Option Files) (table : List ℕ) (why : Stop) → Tells told (λ files. opened_to_write (log_of table files)) (Err why) → TellsPlan told (deletable table) (Err why)
+deletable_refused : (told : Option Files) (table : List ℕ) (why : Stop) → TellsAs {X = Loaded} seen told (opened_for purpose.Write table None) (Err why) → TellsPlan {A = Snapshot} told (deletable table) (Err why)
 unfolding deletable
 deletable_refused told table stop.Store loaded = tt
 deletable_refused told table stop.Names loaded = loaded
@@ -35,20 +37,25 @@ deletable_refused (Some files) table (stop.Refused (refused.Table refusal)) load
 deletable_refused told table (stop.Refused (refused.Statement refusal)) loaded = absurd loaded
 deletable_refused told table (stop.Refused (refused.Put refusal)) loaded = absurd loaded
 
-pub not_loaded : (told : Option Files) (table : List ℕ) (why : Stop) (answer : Result Snapshot Stop) → answer ≡ Err why → Tells told (λ files. opened_to_write (log_of table files)) (Err why) → TellsPlan told (deletable table) answer
+pub not_loaded : (told : Option Files) (table : List ℕ) (why : Stop) (answer : Result Snapshot Stop) → answer ≡ Err why → TellsAs {X = Loaded} seen told (opened_for purpose.Write table None) (Err why) → TellsPlan told (deletable table) answer
 not_loaded told table why answer is loaded = subst (λ (r : Result Snapshot Stop). TellsPlan told (deletable table) r) (sym is) (deletable_refused told table why loaded)
 
-changeable_refused : (told : Option Files) (table : List ℕ) (found : Snapshot) (why : StatementRefusal) → WhereTold told (λ files. opened_to_write (log_of table files) ≡ Ok found) → changeable found ≡ Err why → TellsPlan told (deletable table) (Err (stop.Refused (refused.Statement why)))
+changeable_refused : (told : Option Files) (table : List ℕ) (found : Loaded) (why : StatementRefusal) → WhereTold told (λ files. opened_for purpose.Write table None files ≡ Ok (seen found)) → changeable found.head.snapshot ≡ Err why → TellsPlan told (deletable table) (Err (stop.Refused (refused.Statement why)))
 unfolding deletable
 changeable_refused None table found why loaded is = tt
 changeable_refused (Some files) table found why loaded is = rw (loaded, is) refl
 
-pub not_changeable : (told : Option Files) (table : List ℕ) (found : Snapshot) (why : StatementRefusal) (answer : Result Snapshot Stop) → answer ≡ Err (stop.Refused (refused.Statement why)) → WhereTold told (λ files. opened_to_write (log_of table files) ≡ Ok found)
-    → changeable found ≡ Err why → TellsPlan told (deletable table) answer
+-- what `?` hands on
+pub handed : (answer : Result Snapshot Stop) (why : StatementRefusal) → IsErrAnd answer (λ found. found ≡ stop.Refused (refused.Statement why)) → answer ≡ Err (stop.Refused (refused.Statement why))
+handed (Ok found) why is = absurd is
+handed (Err found) why is = let e : found ≡ stop.Refused (refused.Statement why) = is in cc
+
+pub not_changeable : (told : Option Files) (table : List ℕ) (found : Loaded) (why : StatementRefusal) (answer : Result Snapshot Stop) → answer ≡ Err (stop.Refused (refused.Statement why)) → WhereTold told (λ files. opened_for purpose.Write table None files ≡ Ok (seen found))
+    → changeable found.head.snapshot ≡ Err why → TellsPlan told (deletable table) answer
 not_changeable told table found why answer ends loaded is =
     subst (λ (r : Result Snapshot Stop). TellsPlan told (deletable table) r) (sym ends) (changeable_refused told table found why loaded is)
 
-pub is_deletable : (told : Option Files) (table : List ℕ) (found : Snapshot) → WhereTold told (λ files. opened_to_write (log_of table files) ≡ Ok found) → changeable found ≡ Ok tt → WhereTold told (λ files. deletable table files ≡ Ok found)
+pub is_deletable : (told : Option Files) (table : List ℕ) (found : Loaded) → WhereTold told (λ files. opened_for purpose.Write table None files ≡ Ok (seen found)) → changeable found.head.snapshot ≡ Ok tt → WhereTold told (λ files. deletable table files ≡ Ok found.head.snapshot)
 unfolding deletable
 is_deletable None table found loaded is = tt
 is_deletable (Some files) table found loaded is = rw (loaded, is) refl

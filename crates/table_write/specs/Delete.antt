@@ -1,5 +1,5 @@
 -- DELETE of all rows: each live file is removed.
-use Rattle.std.specs.Prelude.{◌≡◌, ℕ, ◌+◌, ℤ, List, [], ◌∷◌, map, codes, Result, Ok, Err, if◌then◌else◌}
+use Rattle.std.specs.Prelude.{◌≡◌, ℕ, ◌+◌, ℤ, List, [], ◌∷◌, map, codes, None, Result, Ok, Err, if◌then◌else◌}
 use Rattle.dm_store.specs.Files.{Files}
 use Rattle.dm_types.specs.Then.{go}
 use Rattle.dm_types.specs.declared.refusal.Refused.{Refused}
@@ -9,8 +9,8 @@ use Rattle.delta_actions.specs.Removal.{removal_of}
 use Rattle.delta_actions.specs.declared.action.Action.{Action}
 use Rattle.delta_actions.specs.declared.action.Action.TheVariants as action
 use Rattle.log_replay.specs.declared.snapshot.Snapshot.{Snapshot}
-use Rattle.table_log.specs.Log.{log_of}
-use Rattle.table_load.specs.OpenedForWriting.{opened_to_write}
+use Rattle.table_load.specs.Loaded.{opened_for}
+use Rattle.table_load.specs.declared.loaded.Purpose.TheVariants as purpose
 use Rattle.table_load.specs.Properties.{is_on, tracks_rows}
 use Rattle.commit_log.specs.declared.new_files.NewFiles.{NewFiles}
 use Rattle.table_write.specs.Writing.{of_table, of_statement, Write}
@@ -25,8 +25,8 @@ changeable table =
 -- the table's newest state, if its rows may be deleted, or the first refusal
 unfoldable pub deletable : List ℕ → Files → Result Snapshot Refused
 deletable table files =
-    go (of_table (opened_to_write (log_of table files))) (λ found.
-    go (of_statement (changeable found)) (λ _. Ok found))
+    go (of_table (opened_for purpose.Write table None files)) (λ it.
+    go (of_statement (changeable it.head.snapshot)) (λ _. Ok it.head.snapshot))
 
 -- where the commit comes from, and then a remove for each live file in log order
 abbrev pub delete_actions : Snapshot → ℤ → List Action

@@ -8,6 +8,8 @@ use Rattle.dm_types.specs.declared.refusal.Stop.TheVariants as stop
 use Rattle.delta_actions.specs.declared.action.Action.{Action}
 use Rattle.log_replay.specs.Live.{live_adds, numbered}
 use Rattle.log_replay.specs.declared.commits.Commit.{Commit}
+use Rattle.table_load.specs.Agree.{HeldStays}
+use Rattle.table_load.specs.Held.{TableState, held}
 use Rattle.table_log.specs.Agree.{AgreeBut, said_at}
 use Rattle.table_log.specs.Log.{log_of}
 use Rattle.table_log.specs.Versions.{newest_version}
@@ -16,7 +18,8 @@ use Rattle.table_write.specs.Outside.{Outside}
 use Rattle.table_write.specs.Writing.{Accepts, CarriesOut, version_line}
 
 -- the files have one more version of the table, in which no file is live; its commits are those of the version before
--- it and one more; every other version of this table and of the others says what it said
+-- it and one more; its state is the one before it without rows; every other version of this table and of the others
+-- says what it said and holds the state that it held
 pub record DeletesAll (table : List ℕ) (files now : Files) (text : List ℕ) : Type 0 where
   pub newest : ℕ
   pub commits : List Commit
@@ -25,7 +28,12 @@ pub record DeletesAll (table : List ℕ) (files now : Files) (text : List ℕ) :
   pub said : said_at table newest files ≡ Ok commits
   pub says : said_at table (newest + 1) now ≡ Ok (commits ++ numbered (newest + 1) actions ∷ [])
   pub none : live_adds (commits ++ numbered (newest + 1) actions ∷ []) ≡ []
+  pub before : TableState
+  pub held_before : held table newest files ≡ Ok before
+  pub empty : held table (newest + 1) now ≡ Ok (record before { version = newest + 1; rows = [] })
   pub others : AgreeBut table (newest + 1) files now
+  pub stay : (version : ℕ) → version ≢ newest + 1 → HeldStays table version files now
+  pub elsewhere : (other : List ℕ) (version : ℕ) → other ≢ table → HeldStays other version files now
   pub line : text ≡ version_line (newest + 1)
 
 -- an accepted DELETE empties the table, in one new version

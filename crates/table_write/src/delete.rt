@@ -16,7 +16,7 @@ use dm_store::{Clock, NameSource, Store};
 use dm_types::{Bytes, PathBytes, StatementRefusal, Stop, Text};
 use log_replay::Snapshot;
 use std::alloc::{AllocError, Global};
-use table_load::{is_on, load_to_write, tracks_rows};
+use table_load::{Purpose, is_on, load_table, tracks_rows};
 
 /// The text of DELETE FROM: the number of the new version, which removes each live file.
 ///
@@ -71,9 +71,9 @@ fn load_deletable<S: Store>(alloc: Global, store: &mut S, table: &Text) -> Resul
     ensures cause { Counts StopCause (S.faults store.old) (S.faults store.new) result }
     ensures taken { S.taken store.new ≡ S.taken store.old }
 {
-    let found = load_to_write(alloc, store, table)?;
-    check_changeable(&found)?;
-    Ok(found)
+    let loaded = load_table(alloc, store, table, None, Purpose::Write)?;
+    check_changeable(&loaded.head.snapshot)?;
+    Ok(loaded.head.snapshot)
 }
 
 // Rows may be taken away, and they have ids.

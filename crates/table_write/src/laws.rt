@@ -3,10 +3,11 @@ ghost use Rattle.table_write.specs.Emptied.{DeleteEmpties, DeleteStands};
 
 use delta_actions::good_forms;
 use log_replay::laws::{forms_of_live, live_after_commit, removal_of_all};
+use table_load::{next_version_keeps_states, opened_files_are_plain};
 use table_log::{next_is_absent, next_version_stands_alone, says_next};
 
-/// A law: an accepted DELETE leaves one more version of its table, in which no file is live, and
-/// changes no other version of any table, where the files are told.
+/// A law: an accepted DELETE leaves one more version of its table, which holds the state of the one
+/// before it without rows, and changes no other version of any table, where the files are told.
 pub fn delete_empties()
     ensures { DeleteEmpties }
 {
@@ -16,6 +17,8 @@ pub fn delete_empties()
     removal_of_all();
     forms_of_live();
     good_forms();
+    opened_files_are_plain();
+    next_version_keeps_states();
 }
 
 /// A law: a DELETE that isn't accepted leaves told files as they were, unless a put failed: then
@@ -30,4 +33,6 @@ pub fn delete_stands()
     removal_of_all();
     forms_of_live();
     good_forms();
+    opened_files_are_plain();
+    next_version_keeps_states();
 }

@@ -2,21 +2,27 @@
 use super::{File, ONE, THREE, ZERO, store_of};
 use dm_store::{ClaimStore, Store};
 use dm_types::{Refused, Stop, TableRefusal, Text, TextList};
-use log_replay::{Commits, Snapshot};
+use log_replay::Commits;
 use std::alloc::Global;
 use std::process::Abort;
 use std::test::Fail;
-use table_load::{load_head, load_log};
+use table_load::{Head, load_head, load_log};
 
 const OPENED: &str = concat!(
     "{\"protocol\":{\"minReaderVersion\":1,\"minWriterVersion\":2}}\n",
-    "{\"metaData\":{\"id\":\"i\",\"schemaString\":\"{}\"}}\n",
+    r#"{"metaData":{"id":"i","schemaString":"{\"type\":\"struct\",\"fields\":[{\"name\":\"k\",\"type\":\"long\",\"nullable\":true,\"metadata\":{}}]}"}}"#,
+    "\n",
     "{\"add\":{\"path\":\"a.parquet\"}}\n",
 );
 
 const MOVED: &str = concat!(
     "{\"add\":{\"path\":\"b.parquet\"}}\n",
     "{\"remove\":{\"path\":\"a.parquet\"}}\n",
+);
+
+const NO_SCHEMA: &str = concat!(
+    "{\"protocol\":{\"minReaderVersion\":1,\"minWriterVersion\":2}}\n",
+    "{\"metaData\":{\"id\":\"i\",\"schemaString\":\"{}\"}}\n",
 );
 
 const NEWER: &str = "{\"protocol\":{\"minReaderVersion\":4,\"minWriterVersion\":7}}\n";
@@ -38,6 +44,7 @@ fn code_of(stop: &Stop) -> Code {
             ("O4", *reader as u64, *writer as u64)
         }
         TableRefusal::NoMetadata => ("O6", 0, 0),
+        TableRefusal::BadSchema => ("O7", 0, 0),
         TableRefusal::NoSuchVersion { version } => ("O21", *version, 0),
         _ => ("", 0, 0),
     }
@@ -97,7 +104,7 @@ const LOGS: [Case; 7] = [
 ];
 
 // What `load_head` refuses alone.
-const HEADS: [Case; 3] = [
+const HEADS: [Case; 5] = [
     Case {
         files: &[(ZERO, MOVED)],
         version: None,
@@ -112,6 +119,17 @@ const HEADS: [Case; 3] = [
         files: &[(ZERO, OPENED), (ONE, NEWER)],
         version: Some(0),
         found: Found::Table(&[3], "a.parquet"),
+    },
+    // The protocol decides before the columns do.
+    Case {
+        files: &[(ZERO, NO_SCHEMA), (ONE, NEWER)],
+        version: None,
+        found: Found::Refused(("O4", 4, 7)),
+    },
+    Case {
+        files: &[(ZERO, NO_SCHEMA), (ONE, NEWER)],
+        version: Some(0),
+        found: Found::Refused(("O7", 0, 0)),
     },
 ];
 
@@ -136,9 +154,10 @@ fn is_log(answer: &Result<Commits, Stop>, found: Found) -> bool {
     }
 }
 
-fn is_head(answer: &Result<Snapshot, Stop>, found: Found) -> bool {
+fn is_head(answer: &Result<Head, Stop>, found: Found) -> bool {
     match (answer, found) {
-        (Ok(table), Found::Table(counts, path)) => {
+        (Ok(head), Found::Table(counts, path)) => {
+            let table = &head.snapshot;
             table.version.checked_add(1) == Some(counts.len() as u64)
                 && table.live.len() == 1
                 && table.live.as_slice().iter().all(|add| add.path.is(path))

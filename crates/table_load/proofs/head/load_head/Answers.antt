@@ -6,4 +6,4 @@ pub returns-in_err-commits-clause-head : goal.returns-in_err-commits-clause-head
 returns-in_err-commits-clause-head g c = head_stops (g.S.Store.files c.args.store.now) c.args.table.now c.args.version c.in_err-commits.field-0.0 _ (search rules) c.in_err-commits.ensures.commits
 
 pub returns-clause-head : goal.returns-clause-head
-returns-clause-head g c = head_follows (g.S.Store.files c.args.store.now) c.args.table.now c.args.version c.in_ok-commits.commits c.head_of.result c.in_ok-commits.ensures.commits c.head_of.ensures
+returns-clause-head g c = head_follows (g.S.Store.files c.args.store.now) c.args.table.now c.args.version c.in_ok-commits.commits c.head_of.result c.in_ok-commits.ensures.commits c.head_of.ensures.head
