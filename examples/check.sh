@@ -27,6 +27,14 @@ log=_delta_log/00000000000000000000.json
 cp -r "$examples/sales" sales
 runs 'the example' "$(<"$examples/show.sql")" "$(<"$examples/show.expected")" 0
 runs 'the example of DELETE' "$(<"$examples/delete.sql")" "$(<"$examples/delete.expected")" 0
+runs 'rows of a version before a DELETE' 'SHOW ROWS sales VERSION AS OF 0;' "$(tail -n 6 "$examples/show.expected")" 0
+
+cp -r "$examples/sales" gone && rm gone/*east/*
+path=region=south%20east/part-00001-0c7e9a42-71d5-4b38-8e0f-2f9a6c4d1b73.c000.parquet
+runs 'rows of a file that is gone' 'SHOW ROWS gone;' "refused 1: O12 $path" 1
+runs 'DELETE of a file that is gone' 'DELETE FROM gone;' "refused 1: O12 $path" 1
+cp -r "$examples/sales" cut && truncate -s -1 cut/*east/*
+runs 'rows of a file that is cut' 'SHOW ROWS cut;' "refused 1: O13 $path" 1
 
 runs 'no table' 'SHOW FILES t;' 'refused 1: O1' 1
 echo >plain

@@ -1,4 +1,7 @@
+mod ByteOrder
 mod Ending
+mod RowText
 mod Showing
+mod ShowingRows
 mod Starting
 mod Turns

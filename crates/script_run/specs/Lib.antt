@@ -1,7 +1,10 @@
 pub mod Script
 pub mod Refusals
 pub mod Shown
+pub mod RowLines
+pub mod ShownRows
 pub mod Outcome
 pub mod Running
 pub mod Ran
 pub mod Reaching
+pub mod StepsRows

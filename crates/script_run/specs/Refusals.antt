@@ -1,6 +1,6 @@
 -- How a refusal is printed: its code, and its fields behind it.
 use Rattle.std.specs.Prelude.{ℕ, List, ◌++◌, codes}
-use Rattle.std.specs.Fmt.{decimal}
+use Rattle.std.specs.Fmt.{decimal, signed_decimal}
 use Rattle.dm_types.specs.declared.refusal.Counted.{Counted}
 use Rattle.dm_types.specs.declared.refusal.Counted.TheVariants as counted
 use Rattle.dm_types.specs.declared.refusal.Refused.{Refused}
@@ -15,6 +15,13 @@ use Rattle.dm_text.specs.Printing.{field}
 
 abbrev pub counted_name : Counted → List ℕ
 counted_name counted.Commits = codes "commits"
+counted_name counted.Columns = codes "columns"
+counted_name counted.Cells = codes "cells"
+counted_name counted.TextBytes = codes "text"
+
+-- a file and one of its columns
+abbrev pub cell_cause : List ℕ → List ℕ → List ℕ → List ℕ
+cell_cause code path column = code ++ codes " " ++ field path ++ codes " " ++ field column
 
 -- numbers in decimal, texts as fields
 abbrev pub table_cause : TableRefusal → List ℕ
@@ -25,7 +32,19 @@ table_cause (table.ProtocolUnsupported reader writer) =
     codes "O4" ++ codes " " ++ decimal reader ++ codes " " ++ decimal writer
 table_cause (table.UnknownFeature name) = codes "O5" ++ codes " " ++ field name
 table_cause table.NoMetadata = codes "O6"
+table_cause table.BadSchema = codes "O7"
+table_cause (table.UnsupportedType column) = codes "O8" ++ codes " " ++ field column
+table_cause (table.BadMapping column) = codes "O9" ++ codes " " ++ field column
 table_cause (table.DeletionVector path) = codes "O10" ++ codes " " ++ field path
+table_cause (table.BadPath path) = codes "O11" ++ codes " " ++ field path
+table_cause (table.MissingFile path) = codes "O12" ++ codes " " ++ field path
+table_cause (table.BadParquet path) = codes "O13" ++ codes " " ++ field path
+table_cause (table.CompressedPage path) = codes "O14" ++ codes " " ++ field path
+table_cause (table.UnsupportedEncoding path) = codes "O15" ++ codes " " ++ field path
+table_cause (table.ColumnMismatch path column) = cell_cause (codes "O16") path column
+table_cause (table.ValueRange path column) = cell_cause (codes "O17") path column
+table_cause (table.BadPartitionValue path column) = cell_cause (codes "O18") path column
+table_cause (table.RowIdsWrong id) = codes "O19" ++ codes " " ++ signed_decimal id
 table_cause (table.TooLarge counted) = codes "O20" ++ codes " " ++ counted_name counted
 table_cause (table.NoSuchVersion version) = codes "O21" ++ codes " " ++ decimal version
 table_cause (table.UnsupportedRule name) = codes "O22" ++ codes " " ++ field name

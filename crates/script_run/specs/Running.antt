@@ -13,12 +13,15 @@ use Rattle.script_run.specs.Outcome.{refused_line}
 use Rattle.table_write.specs.Outside.{Outside}
 use Rattle.script_run.specs.Refusals.{refused_cause}
 use Rattle.script_run.specs.Shown.{show_files}
+use Rattle.script_run.specs.ShownRows.{show_rows}
 use Rattle.table_write.specs.Writing.{CarriesOut}
 
 -- a statement over the outside before it: its text, its refusal or why it stopped, and the outside that it leaves. Each
 -- kind of statement is a case; one that only reads touches nothing
 abbrev pub Answers : Stmt → Outside → Result (List ℕ) Stop → Outside → Type 0
 Answers (stmt.ShowFiles table) old answer new = Tells old.files (show_files table.text) answer × (new ≡ old)
+Answers (stmt.ShowRows table version) old answer new =
+    Tells old.files (show_rows table.text version) answer × (new ≡ old)
 Answers (stmt.Delete table) old answer new = CarriesOut (delete_from table.text) old answer new
 
 -- a statement's text, or why it is refused

@@ -1,6 +1,6 @@
 // How a refusal is printed.
-ghost use Rattle.std.specs.Prelude.{◌≡◌, ◌++◌, IfOk, codes};
-ghost use Rattle.std.specs.Fmt.{decimal};
+ghost use Rattle.std.specs.Prelude.{◌≡◌, ◌++◌, IfOk, OnOk, codes};
+ghost use Rattle.std.specs.Fmt.{decimal, signed_decimal};
 ghost use Rattle.dm_types.specs.declared.refusal.TableRefusal.TheVariants as table;
 ghost use Rattle.script_run.specs.Refusals as spec;
 ghost use Rattle.dm_text.specs.Printing.{field as field_of};
@@ -34,7 +34,19 @@ fn table_cause(alloc: Global, refusal: &TableRefusal) -> Result<Bytes, AllocErro
         }
         TableRefusal::UnknownFeature { name } => with_text(alloc, "O5", name),
         TableRefusal::NoMetadata => Bytes::from_slice(alloc, b"O6"),
+        TableRefusal::BadSchema => Bytes::from_slice(alloc, b"O7"),
+        TableRefusal::UnsupportedType { column } => with_text(alloc, "O8", column),
+        TableRefusal::BadMapping { column } => with_text(alloc, "O9", column),
         TableRefusal::DeletionVector { path } => with_text(alloc, "O10", path),
+        TableRefusal::BadPath { path } => with_text(alloc, "O11", path),
+        TableRefusal::MissingFile { path } => with_text(alloc, "O12", path),
+        TableRefusal::BadParquet { path } => with_text(alloc, "O13", path),
+        TableRefusal::CompressedPage { path } => with_text(alloc, "O14", path),
+        TableRefusal::UnsupportedEncoding { path } => with_text(alloc, "O15", path),
+        TableRefusal::ColumnMismatch { path, column } => with_texts(alloc, "O16", path, column),
+        TableRefusal::ValueRange { path, column } => with_texts(alloc, "O17", path, column),
+        TableRefusal::BadPartitionValue { path, column } => with_texts(alloc, "O18", path, column),
+        TableRefusal::RowIdsWrong { id } => with_whole(alloc, "O19", *id),
         TableRefusal::TooLarge { counted } => too_large(alloc, *counted),
         TableRefusal::NoSuchVersion { version } => with_number(alloc, "O21", *version),
         TableRefusal::UnsupportedRule { name } => with_text(alloc, "O22", name),
@@ -46,6 +58,9 @@ fn too_large(alloc: Global, counted: Counted) -> Result<Bytes, AllocError>
 {
     match counted {
         Counted::Commits => Bytes::from_slice(alloc, b"O20 commits"),
+        Counted::Columns => Bytes::from_slice(alloc, b"O20 columns"),
+        Counted::Cells => Bytes::from_slice(alloc, b"O20 cells"),
+        Counted::TextBytes => Bytes::from_slice(alloc, b"O20 text"),
     }
 }
 
@@ -75,6 +90,14 @@ fn with_number(alloc: Global, code: &str, number: u64) -> Result<Bytes, AllocErr
     Ok(Bytes::from_vec(cause.into_bytes()))
 }
 
+// A code and a whole number, which may be negative.
+fn with_whole(alloc: Global, code: &str, number: i64) -> Result<Bytes, AllocError>
+    ensures { IfOk result (λ cause. cause ≡ code.now ++ codes " " ++ signed_decimal number) }
+{
+    let cause = format!(in alloc; "{code} {number}")?;
+    Ok(Bytes::from_vec(cause.into_bytes()))
+}
+
 // A code and two numbers.
 fn with_numbers(alloc: Global, code: &str, first: u64, second: u64) -> Result<Bytes, AllocError>
     ensures { IfOk result (λ cause. cause ≡ code.now ++ codes " " ++ decimal first ++ codes " " ++ decimal second) }
@@ -90,8 +113,24 @@ fn with_text(alloc: Global, code: &str, text: &Text) -> Result<Bytes, AllocError
     ensures { IfOk result (λ cause. cause ≡ code.now ++ codes " " ++ field_of text.now) }
 {
     let mut cause = Bytes::from_slice(alloc, code.as_bytes())?;
+    push_text(alloc, &mut cause, text)?;
+    Ok(cause)
+}
+
+// A code and two texts.
+fn with_texts(alloc: Global, code: &str, first: &Text, second: &Text) -> Result<Bytes, AllocError>
+    ensures { IfOk result (λ cause. cause ≡ spec.cell_cause code.now first.now second.now) }
+{
+    let mut cause = with_text(alloc, code, first)?;
+    push_text(alloc, &mut cause, second)?;
+    Ok(cause)
+}
+
+// Adds a space and a text.
+fn push_text(alloc: Global, cause: &mut Bytes, text: &Text) -> Result<(), AllocError>
+    ensures { OnOk result (cause.new ≡ cause.old ++ codes " " ++ field_of text.now) }
+{
     cause.push(b' ')?;
     let field = Value::Text(Text::from_str(alloc, text.as_str())?);
-    print_field(&field, &DataType::Str, &mut cause)?;
-    Ok(cause)
+    print_field(&field, &DataType::Str, cause)
 }

@@ -3,10 +3,13 @@
 
 mod cause;
 mod halt;
+mod line_order;
 mod outcome;
+mod row_lines;
 mod runs;
 mod script;
 mod shown;
+mod shown_rows;
 mod statements;
 mod status;
 

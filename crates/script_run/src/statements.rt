@@ -7,6 +7,7 @@ ghost use Rattle.script_run.specs.Running.{Answers};
 
 use crate::outcome::refusal_line;
 use crate::shown::show_files;
+use crate::shown_rows::show_rows;
 use crate::status::Status;
 use dm_store::{Clock, NameSource, Sink, Store};
 use dm_types::{Bytes, Stop};
@@ -88,6 +89,7 @@ fn run_statement<S: Store, C: Clock, N: NameSource>(
 {
     match statement {
         Stmt::ShowFiles { table } => show_files(alloc, store, &table.text),
+        Stmt::ShowRows { table, version } => show_rows(alloc, store, &table.text, *version),
         Stmt::Delete { table } => delete_from(alloc, store, clock, names, &table.text),
     }
 }

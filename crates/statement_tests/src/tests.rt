@@ -1,6 +1,8 @@
 // Whole runs over objects in memory.
 mod deletes;
+mod files;
 mod folders;
+mod rows;
 mod turns;
 
 use dm_store::{MemoryClock, MemoryNames, MemorySink, MemorySource, MemoryStore, Store};
@@ -313,7 +315,7 @@ fn shows_the_live_files(rt: HostRuntime) -> Result<(), Fail> {
 
 // Scripts over an empty store: a script of the grammar is refused for want of a table, and another
 // one at the first token that can't stand, or at its end.
-const SCRIPTS: [(&str, &str); 36] = [
+const SCRIPTS: [(&str, &str); 44] = [
     ("SHOW FILES t;", "refused 1: O1\n"),
     ("show files t ;", "refused 1: O1\n"),
     (
@@ -323,6 +325,12 @@ const SCRIPTS: [(&str, &str); 36] = [
     ("SHOW FILES FILES;", "refused 1: O1\n"),
     ("SHOW FILES-t;", "refused 1: O1\n"),
     ("SHOW FILES--c\nt--c\n;", "refused 1: O1\n"),
+    ("SHOW ROWS t;", "refused 1: O1\n"),
+    ("show rows rows version as of 0;", "refused 1: O1\n"),
+    (
+        "SHOW ROWS t VERSION AS OF 9223372036854775807;",
+        "refused 1: O1\n",
+    ),
     ("DELETE FROM t;", "refused 1: O1\n"),
     ("delete From from;SHOW FILES t;", "refused 1: O1\n"),
     ("", ""),
@@ -349,6 +357,14 @@ const SCRIPTS: [(&str, &str); 36] = [
     ("SHOW FILES \u{e9};", "refused 0: P1 11\n"),
     ("SHOW\u{b}FILES t;", "refused 0: P1 4\n"),
     ("SHOW IDENTITIES t;", "refused 0: P1 5\n"),
+    ("SHOW ROWS;", "refused 0: P1 9\n"),
+    ("SHOW ROWS t VERSION 0;", "refused 0: P1 20\n"),
+    ("SHOW ROWS t VERSION AS OF -1;", "refused 0: P1 26\n"),
+    (
+        "SHOW ROWS t VERSION AS OF 9223372036854775808;",
+        "refused 0: P1 26\n",
+    ),
+    ("SHOW FILES t VERSION AS OF 0;", "refused 0: P1 13\n"),
     ("DELETE t;", "refused 0: P1 7\n"),
     ("DELETE FROM", "refused 0: P1 11\n"),
     ("DELETE FROM t FROM u;", "refused 0: P1 14\n"),

@@ -1,4 +1,5 @@
 // Whole runs of DELETE over objects in memory.
+use super::files::ONE_ROW;
 use super::{File, ONE, TWO, ZERO};
 use dm_store::{
     ClaimStore, MemoryClock, MemoryNames, MemorySink, MemorySource, MemoryStore, Store,
@@ -8,17 +9,23 @@ use script_run::run;
 use std::alloc::Global;
 use std::test::Fail;
 
-// A table with one file, whose rows are tracked.
+// The data file of a table, which has one row.
+pub(super) const DATA: (&str, &[u8]) = ("t/a.parquet", ONE_ROW);
+
+// A table of this file, whose row is tracked.
 pub(super) const TRACKED: &str = concat!(
     "{\"protocol\":{\"minReaderVersion\":1,\"minWriterVersion\":7,\"writerFeatures\":[\"domainMetadata\",\"rowTracking\"]}}\n",
-    "{\"metaData\":{\"id\":\"i\",\"schemaString\":\"{}\",\"configuration\":{\"delta.enableRowTracking\":\"true\"}}}\n",
-    "{\"add\":{\"path\":\"a.parquet\",\"size\":7,\"baseRowId\":0,\"defaultRowCommitVersion\":0}}\n",
+    r#"{"metaData":{"id":"i","configuration":{"delta.enableRowTracking":"true"},"schemaString":"{\"type\":\"struct\",\"fields\":[{\"name\":\"k\",\"type\":\"long\",\"nullable\":true,\"metadata\":{}},{\"name\":\"v\",\"type\":\"string\",\"nullable\":true,\"metadata\":{}}]}"}}"#,
+    "\n",
+    r#"{"domainMetadata":{"domain":"delta.rowTracking","configuration":"{\"rowIdHighWaterMark\":0}"}}"#,
+    "\n",
+    "{\"add\":{\"path\":\"a.parquet\",\"size\":170,\"baseRowId\":0,\"defaultRowCommitVersion\":0}}\n",
 );
 
 // The commit of a DELETE from it at the time 5.
 const EMPTIED: &str = concat!(
     "{\"commitInfo\":{\"engineInfo\":\"deltamerge\",\"operation\":\"DELETE\",\"timestamp\":5}}\n",
-    "{\"remove\":{\"baseRowId\":0,\"dataChange\":true,\"defaultRowCommitVersion\":0,\"deletionTimestamp\":5,\"extendedFileMetadata\":true,\"partitionValues\":{},\"path\":\"a.parquet\",\"size\":7}}\n",
+    "{\"remove\":{\"baseRowId\":0,\"dataChange\":true,\"defaultRowCommitVersion\":0,\"deletionTimestamp\":5,\"extendedFileMetadata\":true,\"partitionValues\":{},\"path\":\"a.parquet\",\"size\":170}}\n",
 );
 
 // The commit of a DELETE from the empty table at the time 6.
@@ -51,7 +58,8 @@ fn ran_over<S: Store>(
     Ok((status, sink.written().clone()?))
 }
 
-fn store_with(
+// A store of the table's data file, which its first call puts, and of these files.
+pub(super) fn store_with(
     alloc: Global,
     files: &[File],
     failing: &[u64],
@@ -60,29 +68,39 @@ fn store_with(
     let failing = CountList::from_slice(alloc, failing)?;
     let appending = CountList::from_slice(alloc, appending)?;
     let mut store = MemoryStore::new(alloc, failing, appending)?;
+    store.put_new(DATA.0, DATA.1)?;
     for (path, text) in files {
         store.put_new(path, text.as_bytes())?;
     }
     Ok(store)
 }
 
+// Whether a file has this path and these bytes.
+fn is_file(file: &(Text, Bytes), path: &str, bytes: &[u8]) -> bool {
+    file.0.is(path) && file.1.as_slice() == bytes
+}
+
+// Whether these are the files, in this order, behind the table's data file.
 fn are(files: &PathBytes, wanted: &[File]) -> bool {
-    if files.len() != wanted.len() {
+    let Some((data, logs)) = files.as_slice().split_first() else {
+        return false;
+    };
+    if logs.len() != wanted.len() {
         return false;
     }
-    for place in 0..files.len() {
-        let (path, bytes) = files.get(place);
-        let (path_wanted, text) = wanted[place];
-        if path.as_str() != path_wanted || bytes.as_slice() != text.as_bytes() {
+    for place in 0..logs.len() {
+        let (path, text) = wanted[place];
+        if !is_file(&logs[place], path, text.as_bytes()) {
             return false;
         }
     }
-    true
+    is_file(data, DATA.0, DATA.1)
 }
 
 // What fails in a run of two DELETEs and a SHOW FILES over the table, the status and the text that it
-// must give, and how many of the two commits must stand. The table's file is put by the store's first
-// call; each DELETE lists, reads each commit and puts its own.
+// must give, and how many of the two commits must stand. The store's first two calls put the data file
+// and the commit of the table; each DELETE lists, reads each commit and each live file, and puts its own
+// commit.
 struct Fault {
     failing: &'static [u64],
     appending: &'static [u64],
@@ -101,15 +119,8 @@ const NO_FAULT: Fault = Fault {
     commits: 2,
 };
 
-const FAULTS: [Fault; 9] = [
+const FAULTS: [Fault; 15] = [
     NO_FAULT,
-    Fault {
-        failing: &[2],
-        status: 4,
-        text: "",
-        commits: 0,
-        ..NO_FAULT
-    },
     Fault {
         failing: &[3],
         status: 4,
@@ -125,15 +136,29 @@ const FAULTS: [Fault; 9] = [
         ..NO_FAULT
     },
     Fault {
-        failing: &[4],
-        appending: &[4],
+        failing: &[5],
+        status: 4,
+        text: "",
+        commits: 0,
+        ..NO_FAULT
+    },
+    Fault {
+        failing: &[6],
+        status: 4,
+        text: "",
+        commits: 0,
+        ..NO_FAULT
+    },
+    Fault {
+        failing: &[6],
+        appending: &[6],
         status: 4,
         text: "",
         commits: 1,
         ..NO_FAULT
     },
     Fault {
-        failing: &[8],
+        failing: &[7],
         status: 4,
         text: "version 1\n",
         commits: 1,
@@ -141,9 +166,44 @@ const FAULTS: [Fault; 9] = [
     },
     Fault {
         failing: &[8],
-        appending: &[8],
         status: 4,
         text: "version 1\n",
+        commits: 1,
+        ..NO_FAULT
+    },
+    Fault {
+        failing: &[9],
+        status: 4,
+        text: "version 1\n",
+        commits: 1,
+        ..NO_FAULT
+    },
+    Fault {
+        failing: &[10],
+        status: 4,
+        text: "version 1\n",
+        commits: 1,
+        ..NO_FAULT
+    },
+    Fault {
+        failing: &[10],
+        appending: &[10],
+        status: 4,
+        text: "version 1\n",
+        commits: 2,
+        ..NO_FAULT
+    },
+    Fault {
+        failing: &[11],
+        status: 4,
+        text: "version 1\nversion 2\n",
+        commits: 2,
+        ..NO_FAULT
+    },
+    Fault {
+        failing: &[14],
+        status: 4,
+        text: "version 1\nversion 2\n",
         commits: 2,
         ..NO_FAULT
     },
@@ -185,7 +245,7 @@ struct Refusal {
     line: &'static str,
 }
 
-const REFUSALS: [Refusal; 12] = [
+const REFUSALS: [Refusal; 18] = [
     Refusal {
         commit: "{\"protocol\":{\"minReaderVersion\":4,\"minWriterVersion\":8}}",
         line: "O4 4 8",
@@ -215,15 +275,15 @@ const REFUSALS: [Refusal; 12] = [
         line: "O5 x",
     },
     Refusal {
-        commit: "{\"metaData\":{\"id\":\"i\",\"schemaString\":\"\",\"configuration\":{\"delta.enableChangeDataFeed\":\"true\",\"delta.appendOnly\":\"true\"}}}",
+        commit: r#"{"metaData":{"id":"i","configuration":{"delta.enableChangeDataFeed":"true","delta.appendOnly":"true"},"schemaString":"{\"type\":\"struct\",\"fields\":[{\"name\":\"k\",\"type\":\"long\",\"nullable\":true,\"metadata\":{}},{\"name\":\"v\",\"type\":\"string\",\"nullable\":true,\"metadata\":{}}]}"}}"#,
         line: "O22 delta.enableChangeDataFeed",
     },
     Refusal {
-        commit: "{\"metaData\":{\"id\":\"i\",\"schemaString\":\"\",\"configuration\":{\"delta.enableChangeDataFeed\":\"false\",\"delta.appendOnly\":\"true\"}}}",
+        commit: r#"{"metaData":{"id":"i","configuration":{"delta.enableChangeDataFeed":"false","delta.appendOnly":"true"},"schemaString":"{\"type\":\"struct\",\"fields\":[{\"name\":\"k\",\"type\":\"long\",\"nullable\":true,\"metadata\":{}},{\"name\":\"v\",\"type\":\"string\",\"nullable\":true,\"metadata\":{}}]}"}}"#,
         line: "S4",
     },
     Refusal {
-        commit: "{\"metaData\":{\"id\":\"i\",\"schemaString\":\"\",\"configuration\":{\"delta.enableRowTracking\":\"TRUE\"}}}",
+        commit: r#"{"metaData":{"id":"i","configuration":{"delta.enableRowTracking":"TRUE"},"schemaString":"{\"type\":\"struct\",\"fields\":[{\"name\":\"k\",\"type\":\"long\",\"nullable\":true,\"metadata\":{}},{\"name\":\"v\",\"type\":\"string\",\"nullable\":true,\"metadata\":{}}]}"}}"#,
         line: "S5",
     },
     Refusal {
@@ -233,6 +293,31 @@ const REFUSALS: [Refusal; 12] = [
     Refusal {
         commit: "{\"add\":{}}",
         line: "O3 1 1",
+    },
+    // The columns and the rows decide before the checks of writing do.
+    Refusal {
+        commit: "{\"metaData\":{\"id\":\"i\",\"schemaString\":\"{}\"}}",
+        line: "O7",
+    },
+    Refusal {
+        commit: r#"{"metaData":{"id":"i","configuration":{"delta.enableChangeDataFeed":"true"},"schemaString":"{\"type\":\"struct\",\"fields\":[{\"name\":\"k\",\"type\":\"long\",\"nullable\":true,\"metadata\":{}},{\"name\":\"x\",\"type\":\"double\",\"nullable\":true,\"metadata\":{}}]}"}}"#,
+        line: "O8 x",
+    },
+    Refusal {
+        commit: r#"{"metaData":{"id":"i","configuration":{"delta.columnMapping.mode":"name","delta.appendOnly":"true"},"schemaString":"{\"type\":\"struct\",\"fields\":[{\"name\":\"k\",\"type\":\"long\",\"nullable\":true,\"metadata\":{}},{\"name\":\"v\",\"type\":\"string\",\"nullable\":true,\"metadata\":{}}]}"}}"#,
+        line: "O9 k",
+    },
+    Refusal {
+        commit: "{\"add\":{\"path\":\"b.parquet\"}}\n{\"protocol\":{\"minReaderVersion\":1,\"minWriterVersion\":8}}",
+        line: "O12 b.parquet",
+    },
+    Refusal {
+        commit: r#"{"metaData":{"id":"i","configuration":{"delta.appendOnly":"true"},"schemaString":"{\"type\":\"struct\",\"fields\":[{\"name\":\"k\",\"type\":\"string\",\"nullable\":true,\"metadata\":{}},{\"name\":\"v\",\"type\":\"string\",\"nullable\":true,\"metadata\":{}}]}"}}"#,
+        line: "O16 a.parquet k",
+    },
+    Refusal {
+        commit: "{\"add\":{\"path\":\"a.parquet\",\"baseRowId\":1,\"defaultRowCommitVersion\":0}}\n{\"protocol\":{\"minReaderVersion\":1,\"minWriterVersion\":7,\"writerFeatures\":[\"rowTracking\",\"x\"]}}",
+        line: "O19 1",
     },
 ];
 

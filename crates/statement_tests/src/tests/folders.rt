@@ -1,7 +1,7 @@
 // Runs over a real folder.
 ghost use Rattle.std.specs.Prelude.{None};
 
-use super::deletes::TRACKED;
+use super::deletes::{DATA, TRACKED};
 use dm_store::{
     Clock, ListFault, MemoryClock, MemoryNames, MemorySink, MemorySource, PutFault, ReadFault,
     Store,
@@ -94,7 +94,7 @@ struct Case {
 
 const ZERO: &str = "t/_delta_log/00000000000000000000.json";
 
-const CASES: [Case; 4] = [
+const CASES: [Case; 3] = [
     Case {
         path: "t",
         bytes: "no folder",
@@ -114,12 +114,6 @@ const CASES: [Case; 4] = [
         script: "SHOW FILES t;",
         text: "refused 1: O1\n",
     },
-    Case {
-        path: ZERO,
-        bytes: TRACKED,
-        script: "SHOW FILES t; DELETE FROM t; SHOW FILES t; DELETE FROM t;",
-        text: "a.parquet\nversion 1\nversion 2\n",
-    },
 ];
 
 #[test]
@@ -133,6 +127,28 @@ fn finds_tables_in_a_folder(rt: HostRuntime) -> Result<(), Fail> {
         fs::remove_dir_all(&rt, files.root.as_str())?;
         assert!(rt; text.as_slice() == case.text.as_bytes());
     }
+    Ok(())
+}
+
+// Puts the table of one row.
+fn put_table(files: &mut Below) -> Result<(), PutFault> {
+    files.put_new(DATA.0, DATA.1)?;
+    files.put_new(ZERO, TRACKED.as_bytes())
+}
+
+#[test]
+fn shows_and_deletes_the_rows_of_a_folder(rt: HostRuntime) -> Result<(), Fail> {
+    let mut files = folder_of(rt, "rows")?;
+    put_table(&mut files)?;
+    let mut clock = MemoryClock::new(WholeList::new(rt.alloc()))?;
+    let script =
+        "SHOW FILES t; SHOW ROWS t; DELETE FROM t; SHOW FILES t; DELETE FROM t; SHOW ROWS t VERSION AS OF 0;";
+    let (status, text) = ran(&mut files, &mut clock, script)?;
+    fs::remove_dir_all(&rt, files.root.as_str())?;
+    assert_eq!(rt; status, 0);
+    let row = "id\tversion\tk\tv\n0\t0\t3\t\\N\n";
+    let wanted = format!(in rt.alloc(); "a.parquet\n{row}version 1\nversion 2\n{row}")?;
+    assert!(rt; text.as_slice() == wanted.as_bytes());
     Ok(())
 }
 
@@ -167,7 +183,7 @@ fn delete_all(files: &mut Below) -> Result<u8, AllocError> {
 fn one_of_two_programs_commits(rt: HostRuntime) -> Result<(), Fail> {
     let alloc = rt.alloc();
     let mut files = folder_of(rt, "programs")?;
-    files.put_new(ZERO, TRACKED.as_bytes())?;
+    put_table(&mut files)?;
     let mut other = OtherProgram {
         files: folder_of(rt, "programs")?,
         status: u8::MAX,
