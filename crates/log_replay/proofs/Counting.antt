@@ -1,18 +1,23 @@
--- The newest of some versions, and whether one below it is missing.
-use Rattle.std.proofs.Common.{◌≡◌, ℕ, zero, suc, ◌+◌, ◌-◌, ◌<◌, ◌≤◌, max, List, [], ◌∷◌, length, add-one, Option, Some, None, Ok, Err, refl, sym, ◌∙◌, subst, Bool, true, false, ◌==◌, inl, inr, ◌⊎◌, arith}
+-- How many versions there are, the newest of them, and whether one below it is missing.
+use Rattle.std.proofs.Common.{◌≡◌, ℕ, zero, suc, ◌+◌, ◌-◌, ◌<◌, ◌≤◌, max, List, [], ◌∷◌, length, add-one, Option, Some, None, Result, Ok, Err, refl, sym, ◌∙◌, subst, Bool, true, false, ◌==◌, cond, nat_lt, ap, inl, inr, ◌⊎◌, arith}
 use Rattle.std.specs.List.{AllByRecursion}
 use Rattle.std.proofs.lemmas.Bool.{cases_lt, eqb-true}
 use Rattle.std.proofs.lemmas.Bool.Decides.{nat_tests}
+use Rattle.log_replay.specs.declared.numbers.NumberFault.{NumberFault}
 use Rattle.log_replay.specs.declared.numbers.NumberFault.TheVariants as fault
 use Rattle.std.specs.List.Sorted.{IsStrictlySortedBy}
 use Rattle.std.specs.Ordering.{nat_cmp}
 use Rattle.std.specs.declared.cmp.Ordering.TheVariants.{Less}
-use Rattle.log_replay.specs.Numbers.{is_in, greatest, first_missing, unless_gap, newest_of}
+use Rattle.log_replay.specs.Numbers.{is_in, greatest, count_below, count_of, first_missing, unless_gap, gapless, newest_of}
+use Rattle.log_replay.specs.declared.numbers.TheConstants.{MAX_COMMITS}
 
 -- what the last of a set says
 pub record IsGreatest (k : ℕ) (ns : List ℕ) : Type 0 where
   pub there : is_in k ns ≡ true
   pub upper : (q : ℕ) → is_in q ns ≡ true → q ≤ k
+
+member_of : (x : ℕ) (xs : List ℕ) → is_in x (x ∷ xs) ≡ true
+member_of x xs = grind (arith, nat_tests)
 
 -- ---- the greatest
 
@@ -27,7 +32,7 @@ greatest-upper q (n ∷ ns) there = upper_next q n (greatest ns) ns (greatest-up
 max_in : (n g : ℕ) (ns : List ℕ) → is_in g ns ≡ true → is_in (max n g) (n ∷ ns) ≡ true
 max_in n g ns there = grind (arith, nat_tests)
 
-greatest-in : (n : ℕ) (ns : List ℕ) → is_in (greatest (n ∷ ns)) (n ∷ ns) ≡ true
+pub greatest-in : (n : ℕ) (ns : List ℕ) → is_in (greatest (n ∷ ns)) (n ∷ ns) ≡ true
 unfolding greatest
 greatest-in n [] = grind (arith, nat_tests)
 greatest-in n (m ∷ ns) = max_in n (greatest (m ∷ ns)) (m ∷ ns) (greatest-in m ns)
@@ -38,6 +43,13 @@ greatest-is (n ∷ ns) k there upper =
     let low = greatest-upper k (n ∷ ns) there in
     let high = upper (greatest (n ∷ ns)) (greatest-in n ns) in
     omega arith
+
+pub greatest-same : (xs ys : List ℕ) → ((n : ℕ) → is_in n xs ≡ is_in n ys) → greatest xs ≡ greatest ys
+greatest-same [] [] same = refl
+greatest-same [] (y ∷ ys) same = absurd (let off : false ≡ true = same y ∙ member_of y ys in cc)
+greatest-same (x ∷ xs) [] same = absurd (let off : true ≡ false = sym (member_of x xs) ∙ same x in cc)
+greatest-same (x ∷ xs) (y ∷ ys) same =
+    greatest-is (x ∷ xs) (greatest (y ∷ ys)) (same (greatest (y ∷ ys)) ∙ greatest-in y ys) (λ q there. greatest-upper q (y ∷ ys) (sym (same q) ∙ there))
 
 -- ---- what is missing
 
@@ -57,15 +69,15 @@ missing-none ns (suc k) all = rw (missing-none ns k (λ i less. all i (omega ari
 
 -- ---- the newest version, by its members alone
 
-newest_if : (n : ℕ) (ns : List ℕ) (k : ℕ) (missing : Option ℕ) → greatest (n ∷ ns) ≡ k → first_missing (n ∷ ns) k ≡ missing → newest_of (n ∷ ns) ≡ unless_gap missing k
-unfolding newest_of
+newest_if : (n : ℕ) (ns : List ℕ) (k : ℕ) (missing : Option ℕ) → greatest (n ∷ ns) ≡ k → first_missing (n ∷ ns) k ≡ missing → gapless (n ∷ ns) ≡ unless_gap missing k
+unfolding gapless
 newest_if n ns k missing top e = rw (top, e) refl
 
-newest_found : (ns : List ℕ) (k : ℕ) → IsGreatest k ns → first_missing ns k ≡ None → newest_of ns ≡ Ok k
+newest_found : (ns : List ℕ) (k : ℕ) → IsGreatest k ns → first_missing ns k ≡ None → gapless ns ≡ Ok k
 newest_found [] k last none = absurd (let off = last.there in cc)
 newest_found (n ∷ ns) k last none = newest_if n ns k None (greatest-is (n ∷ ns) k last.there last.upper) none
 
-newest_gap : (ns : List ℕ) (n more : ℕ) → is_in more ns ≡ true → n < more → first_missing ns n ≡ None → is_in n ns ≡ false → newest_of ns ≡ Err (fault.Gap n)
+newest_gap : (ns : List ℕ) (n more : ℕ) → is_in more ns ≡ true → n < more → first_missing ns n ≡ None → is_in n ns ≡ false → gapless ns ≡ Err (fault.Gap n)
 newest_gap [] n more there above none absent = absurd (cc)
 newest_gap (m ∷ ns) n more there above none absent =
     let k : ℕ = greatest (m ∷ ns) in
@@ -81,16 +93,12 @@ unfolding first_missing
 missing-same xs ys same zero = refl
 missing-same xs ys same (suc n) = rw (missing-same xs ys same n, same n) refl
 
-member_of : (x : ℕ) (xs : List ℕ) → is_in x (x ∷ xs) ≡ true
-member_of x xs = grind (arith, nat_tests)
-
-pub newest-same : (xs ys : List ℕ) → ((n : ℕ) → is_in n xs ≡ is_in n ys) → newest_of xs ≡ newest_of ys
-newest-same [] [] same = refl
-newest-same [] (y ∷ ys) same = absurd (let off : false ≡ true = same y ∙ member_of y ys in cc)
-newest-same (x ∷ xs) [] same = absurd (let off : true ≡ false = sym (member_of x xs) ∙ same x in cc)
-newest-same (x ∷ xs) (y ∷ ys) same =
-    let top : greatest (x ∷ xs) ≡ greatest (y ∷ ys) = greatest-is (x ∷ xs) (greatest (y ∷ ys)) (same (greatest (y ∷ ys)) ∙ greatest-in y ys) (λ q there. greatest-upper q (y ∷ ys) (sym (same q) ∙ there)) in
-    newest_if x xs (greatest (y ∷ ys)) (first_missing (y ∷ ys) (greatest (y ∷ ys))) top (missing-same (x ∷ xs) (y ∷ ys) same (greatest (y ∷ ys)))
+gapless-same : (xs ys : List ℕ) → ((n : ℕ) → is_in n xs ≡ is_in n ys) → gapless xs ≡ gapless ys
+gapless-same [] [] same = refl
+gapless-same [] (y ∷ ys) same = absurd (let off : false ≡ true = same y ∙ member_of y ys in cc)
+gapless-same (x ∷ xs) [] same = absurd (let off : true ≡ false = sym (member_of x xs) ∙ same x in cc)
+gapless-same (x ∷ xs) (y ∷ ys) same =
+    newest_if x xs (greatest (y ∷ ys)) (first_missing (y ∷ ys) (greatest (y ∷ ys))) (greatest-same (x ∷ xs) (y ∷ ys) same) (missing-same (x ∷ xs) (y ∷ ys) same (greatest (y ∷ ys)))
     ∙ sym (newest_if y ys (greatest (y ∷ ys)) (first_missing (y ∷ ys) (greatest (y ∷ ys))) refl refl)
 
 -- ---- numbers that ascend
@@ -153,7 +161,7 @@ counted_more all rest next n more so_far split is =
     below_next i less true e = let same : i ≡ next = eqb-true i next e in rw same (so_far.others next (omega arith) ∙ rw split here)
     below_next i less false e = so_far.below i (let apart : i < next = grind (arith, nat_tests) in apart)
 
-pub counted_gap : (all rest : List ℕ) (next n : ℕ) (more : List ℕ) → IsCounted all next rest → rest ≡ n ∷ more → ¬ (n ≡ next) → Err (fault.Gap next) ≡ newest_of all
+pub counted_gap : (all rest : List ℕ) (next n : ℕ) (more : List ℕ) → IsCounted all next rest → rest ≡ n ∷ more → ¬ (n ≡ next) → Err (fault.Gap next) ≡ gapless all
 unfolding Ascends
 counted_gap all rest next n more so_far split apart =
     let ascending : Ascends next (n ∷ more) = rw split at so_far.ascends in
@@ -168,8 +176,8 @@ no_member : (all : List ℕ) → ((i : ℕ) → is_in i all ≡ false) → all �
 no_member [] none = refl
 no_member (n ∷ ns) none = absurd (let off : true ≡ false = sym (member_of n ns) ∙ none n in cc)
 
-nothing_of : (all : List ℕ) → all ≡ [] → Err fault.Nothing ≡ newest_of all
-unfolding newest_of
+nothing_of : (all : List ℕ) → all ≡ [] → Err fault.Nothing ≡ gapless all
+unfolding gapless
 nothing_of [] none = refl
 nothing_of (n ∷ ns) none = cc
 
@@ -177,10 +185,10 @@ empty : (xs : List ℕ) → length xs ≡ 0 → xs ≡ []
 empty [] is = refl
 empty (x ∷ xs) is = absurd (omega arith)
 
-pub counted_nothing : (all rest : List ℕ) (next : ℕ) → IsCounted all next rest → length rest ≡ 0 → next ≡ 0 → Err fault.Nothing ≡ newest_of all
+pub counted_nothing : (all rest : List ℕ) (next : ℕ) → IsCounted all next rest → length rest ≡ 0 → next ≡ 0 → Err fault.Nothing ≡ gapless all
 counted_nothing all rest next so_far none zero_is = nothing_of all (no_member all (λ i. so_far.others i (omega arith) ∙ rw (empty rest none) refl))
 
-pub counted_all : (all rest : List ℕ) (next : ℕ) → IsCounted all next rest → length rest ≡ 0 → ¬ (next ≡ 0) → Ok (next - 1) ≡ newest_of all
+pub counted_all : (all rest : List ℕ) (next : ℕ) → IsCounted all next rest → length rest ≡ 0 → ¬ (next ≡ 0) → Ok (next - 1) ≡ gapless all
 counted_all all rest next so_far none some =
     let top : IsGreatest (next - 1) all = record {
       there = so_far.below (next - 1) (omega arith);
@@ -194,3 +202,91 @@ counted_all all rest next so_far none some =
 
 pub counted_last : (all rest : List ℕ) (next : ℕ) → IsCounted all next rest → ¬ (next ≡ 0) → is_in (next - 1) all ≡ true
 counted_last all rest next so_far some = so_far.below (next - 1) (omega arith)
+
+-- ---- how many there are
+
+-- no more numbers are in a list than there are below the bound
+pub count_within : (ns : List ℕ) (bound : ℕ) → count_below ns bound ≤ bound
+unfolding count_below
+count_within ns zero = omega arith
+count_within ns (suc n) = by (is_in n ns) (count_within ns n)
+  where
+    by : (there : Bool) → count_below ns n ≤ n → cond there (count_below ns n + 1) (count_below ns n) ≤ suc n
+    by true most = omega arith
+    by false most = omega arith
+
+count-same : (xs ys : List ℕ) → ((n : ℕ) → is_in n xs ≡ is_in n ys) → (bound : ℕ) → count_below xs bound ≡ count_below ys bound
+unfolding count_below
+count-same xs ys same zero = refl
+count-same xs ys same (suc n) = rw (count-same xs ys same n, same n) refl
+
+pub newest-same : (xs ys : List ℕ) → ((n : ℕ) → is_in n xs ≡ is_in n ys) → newest_of xs ≡ newest_of ys
+unfolding newest_of
+newest-same xs ys same =
+    let counts : count_of xs ≡ count_of ys = ap (λ top. count_below xs (top + 1)) (greatest-same xs ys same) ∙ count-same xs ys same (greatest ys + 1) in
+    rw (counts, gapless-same xs ys same) refl
+
+is_in-other : (i n : ℕ) (ns : List ℕ) → (n == i) ≡ false → is_in i (n ∷ ns) ≡ is_in i ns
+is_in-other i n ns apart = rw apart refl
+
+count_beyond : (n bound : ℕ) (ns : List ℕ) → bound ≤ n → count_below (n ∷ ns) bound ≡ count_below ns bound
+unfolding count_below
+count_beyond n zero ns past = refl
+count_beyond n (suc b) ns past =
+    let apart : (n == b) ≡ false = grind (arith, nat_tests) in
+    rw (count_beyond n b ns (omega arith), is_in-other b n ns apart) refl
+
+count_one : (n bound : ℕ) (ns : List ℕ) → is_in n ns ≡ false → n < bound → count_below (n ∷ ns) bound ≡ count_below ns bound + 1
+unfolding count_below
+count_one n zero ns absent less = absurd (omega arith)
+count_one n (suc b) ns absent less = by (n == b) refl (count_one n b ns absent)
+  where
+    more : (there : Bool) (with without : ℕ) → with ≡ without + 1 → cond there (with + 1) with ≡ cond there (without + 1) without + 1
+    more true with without e = omega (arith, e)
+    more false with without e = e
+
+    by : (same : Bool) → (n == b) ≡ same → (n < b → count_below (n ∷ ns) b ≡ count_below ns b + 1)
+        → cond (is_in b (n ∷ ns)) (count_below (n ∷ ns) b + 1) (count_below (n ∷ ns) b) ≡ cond (is_in b ns) (count_below ns b + 1) (count_below ns b) + 1
+    by true e rest =
+        let here : n ≡ b = eqb-true n b e in
+        let gone : is_in b ns ≡ false = subst (λ (i : ℕ). is_in i ns ≡ false) here absent in
+        rw (e, gone, count_beyond n b ns (omega (arith, here))) refl
+    by false e rest = rw (is_in-other b n ns e) (more (is_in b ns) (count_below (n ∷ ns) b) (count_below ns b) (rest (grind (arith, nat_tests))))
+
+count_none : (bound : ℕ) → count_below [] bound ≡ 0
+unfolding count_below
+count_none zero = refl
+count_none (suc b) = count_none b
+
+count_ascends : (low bound : ℕ) (ns : List ℕ) → Ascends low ns → ((q : ℕ) → is_in q ns ≡ true → q < bound) → count_below ns bound ≡ length ns
+unfolding Ascends
+count_ascends low bound [] ascends below = count_none bound
+count_ascends low bound (n ∷ ns) ascends below =
+    let rest = count_ascends (n + 1) bound ns ascends.1 (λ q there. below q (is_in-more q n ns there)) in
+    count_one n bound ns (ascends_above (n + 1) n ns ascends.1 (omega arith)) (below n (member_of n ns)) ∙ omega (arith, rest)
+  where
+    is_in-more : (q n : ℕ) (ns : List ℕ) → is_in q ns ≡ true → is_in q (n ∷ ns) ≡ true
+    is_in-more q n ns there = grind (arith, nat_tests)
+
+-- a list that ascends has as many numbers as places
+count_sorted : (ns : List ℕ) → IsStrictlySortedBy nat_cmp ns → count_of ns ≡ length ns
+count_sorted ns sorted =
+    count_ascends 0 (greatest ns + 1) ns (sorted_ascends 0 ns (all_from_zero ns) sorted) (λ q there. let most = greatest-upper q ns there in omega arith)
+
+pub too_many : (ns : List ℕ) → IsStrictlySortedBy nat_cmp ns → MAX_COMMITS < length ns → Err fault.TooMany ≡ newest_of ns
+unfolding newest_of
+too_many ns sorted many =
+    let over : nat_lt MAX_COMMITS (count_of ns) ≡ true = rw (count_sorted ns sorted) (above MAX_COMMITS (length ns) many) in
+    rw over refl
+  where
+    above : (a b : ℕ) → a < b → nat_lt a b ≡ true
+    above a b less = grind (arith, nat_tests)
+
+pub few_enough : (ns : List ℕ) (r : Result ℕ NumberFault) → IsStrictlySortedBy nat_cmp ns → length ns ≤ MAX_COMMITS → r ≡ gapless ns → r ≡ newest_of ns
+unfolding newest_of
+few_enough ns r sorted few is =
+    let within : nat_lt MAX_COMMITS (count_of ns) ≡ false = rw (count_sorted ns sorted) (not_above MAX_COMMITS (length ns) few) in
+    rw within is
+  where
+    not_above : (a b : ℕ) → b ≤ a → nat_lt a b ≡ false
+    not_above a b le = grind (arith, nat_tests)

@@ -1,5 +1,5 @@
 mod Coming
-mod Counting
+pub mod Counting
 mod Deciding
 mod Growing
 mod Marking

@@ -11,5 +11,5 @@ mod snapshot;
 
 pub use commits::{Commit, Commits, push_commit};
 pub use live::live_paths;
-pub use numbers::{NumberFault, check_numbers};
+pub use numbers::{MAX_COMMITS, NumberFault, check_numbers};
 pub use snapshot::{LiveFiles, ReplayFault, Snapshot, replay};

@@ -1,9 +1,10 @@
 -- What stays of the states of tables when files are added (PROTOCOL.md, "Delta Log Entries": a version is never written
 -- again).
-use Rattle.std.specs.Prelude.{◌≡◌, ◌≢◌, ℕ, ◌+◌, ◌<◌, ◌^◌, List, [], ◌∷◌, ◌++◌, Some, None, Ok, Err}
+use Rattle.std.specs.Prelude.{◌≡◌, ◌≢◌, ℕ, ◌+◌, ◌<◌, List, [], ◌∷◌, ◌++◌, Some, None, Ok, Err}
 use Rattle.dm_store.specs.Files.{Files, lookup}
 use Rattle.dm_store.specs.LoggedPath.{path_of}
 use Rattle.dm_types.specs.declared.refusal.TableRefusal.TheVariants as refusal
+use Rattle.log_replay.specs.declared.numbers.TheConstants.{MAX_COMMITS}
 use Rattle.table_load.specs.Files.{below}
 use Rattle.table_load.specs.Held.{held}
 use Rattle.table_log.specs.Agree.{AreUnseen}
@@ -24,16 +25,17 @@ abbrev pub HeldByUnseen : Type 0
 HeldByUnseen = (files more : Files) (folder : List ℕ) (version : ℕ) → AreUnseen more
     → HeldStays folder version files (files ++ more)
 
--- unseen files, and behind them the commit file of the version behind the newest of a table, change that version alone
+-- unseen files, and behind them the commit file of the version behind the newest of a table with room for one more
+-- commit, change that version alone
 abbrev pub HeldBesideNext : Type 0
 HeldBesideNext = (files more : Files) (folder : List ℕ) (newest : ℕ) (bytes : List ℕ) → AreUnseen more
-    → newest + 1 < 2 ^ 63 → newest_version (log_of folder files) ≡ Ok newest
+    → newest + 1 < MAX_COMMITS → newest_version (log_of folder files) ≡ Ok newest
     → (version : ℕ) → version ≢ newest + 1
     → HeldStays folder version files (files ++ (more ++ (commit_path folder (newest + 1), bytes) ∷ []))
 
 -- and none of another table
 abbrev pub HeldElsewhere : Type 0
 HeldElsewhere = (files more : Files) (folder : List ℕ) (newest : ℕ) (bytes : List ℕ) → AreUnseen more
-    → newest + 1 < 2 ^ 63 → newest_version (log_of folder files) ≡ Ok newest
+    → newest + 1 < MAX_COMMITS → newest_version (log_of folder files) ≡ Ok newest
     → (other : List ℕ) (version : ℕ) → other ≢ folder
     → HeldStays other version files (files ++ (more ++ (commit_path folder (newest + 1), bytes) ∷ []))

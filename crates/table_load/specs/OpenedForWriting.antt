@@ -4,11 +4,11 @@ use Rattle.dm_types.specs.declared.refusal.TableRefusal.{TableRefusal}
 use Rattle.dm_types.specs.declared.refusal.TableRefusal.TheVariants as refusal
 use Rattle.dm_types.specs.declared.refusal.Counted.TheVariants as counted
 use Rattle.dm_types.specs.Then.{go}
+use Rattle.log_replay.specs.declared.numbers.TheConstants.{MAX_COMMITS}
 use Rattle.log_replay.specs.declared.snapshot.Snapshot.{Snapshot}
 use Rattle.table_features.specs.Features.{write_fault}
 use Rattle.table_load.specs.Head.{unless_fault}
 use Rattle.table_load.specs.Properties.{is_on}
-use Rattle.table_load.specs.declared.opened_for_writing.TheConstants.{MAX_COMMITS}
 
 -- the log has fewer commits than it may have
 abbrev pub has_room : ℕ → Result (Unit {0}) TableRefusal

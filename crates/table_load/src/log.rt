@@ -14,7 +14,7 @@ ghost use Rattle.table_load.specs.Tells.{Tells};
 
 use delta_actions::{ActionFault, Actions, read_commit};
 use dm_store::{ReadFault, Store};
-use dm_types::{CountList, Stop, TableRefusal, Text};
+use dm_types::{CountList, Counted, Stop, TableRefusal, Text};
 use log_replay::{Commits, NumberFault, check_numbers, laws, push_commit};
 use std::alloc::{AllocError, Global};
 use std::collections::BTreeSet;
@@ -23,9 +23,10 @@ use table_log::{list_versions, read_version};
 /// The commits of a table up to a version, or up to the newest where none is asked for (PROTOCOL.md,
 /// "Delta Log Entries").
 ///
-/// The first of these is refused: a log folder without a commit file (`NoTable`), a version below
-/// the newest that is missing (`LogGap`), a version that isn't there (`NoSuchVersion`), a commit
-/// file with a line that is no action (`BadAction`).
+/// The first of these is refused: a log folder without a commit file (`NoTable`), or with more of
+/// them than a log may have (`TooLarge`), a version below the newest that is missing (`LogGap`), a
+/// version that isn't there (`NoSuchVersion`), a commit file with a line that is no action
+/// (`BadAction`).
 pub fn load_log<S: Store>(
     alloc: Global,
     store: &mut S,
@@ -58,7 +59,7 @@ fn version_among(alloc: Global, versions: &BTreeSet<u64>, asked: Option<u64>) ->
     }
 }
 
-// The newest version, if no older one is missing.
+// The newest version, if there aren't too many and no older one is missing.
 fn newest_version(alloc: Global, versions: &BTreeSet<u64>) -> Result<u64, Stop>
     requires { All IsVersion versions.now.keys }
     ensures newest { Gives (of_numbers (newest_of versions.now.keys)) result }
@@ -68,6 +69,10 @@ fn newest_version(alloc: Global, versions: &BTreeSet<u64>) -> Result<u64, Stop>
     match check_numbers(sorted.as_slice()) {
         Ok(newest) => Ok(newest),
         Err(NumberFault::Nothing) => Err(TableRefusal::NoTable.into()),
+        Err(NumberFault::TooMany) => {
+            let counted = Counted::Commits;
+            Err(TableRefusal::TooLarge { counted }.into())
+        }
         Err(NumberFault::Gap { version }) => Err(TableRefusal::LogGap { version }.into()),
     }
 }

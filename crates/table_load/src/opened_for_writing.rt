@@ -6,12 +6,9 @@ ghost use Rattle.table_load.specs.StepsLoading.{Gives};
 use crate::head::permit;
 use crate::properties::is_on;
 use dm_types::{Counted, Stop, TableRefusal, Text};
-use log_replay::Snapshot;
+use log_replay::{MAX_COMMITS, Snapshot};
 use std::alloc::Global;
 use table_features::check_write;
-
-/// The greatest number of commits of a log.
-pub const MAX_COMMITS: u64 = 100_000;
 
 /// The property that asks for change files.
 const CHANGE_DATA_FEED: &str = "delta.enableChangeDataFeed";

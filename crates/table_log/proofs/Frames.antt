@@ -5,6 +5,7 @@ use Rattle.std.proofs.lemmas.List.{append-nil}
 use Rattle.std.proofs.lemmas.List.Elements.{filter_map-append}
 use Rattle.std.proofs.Math.Seq.{take-append_seam}
 use Rattle.dm_store.specs.Files.{Files}
+use Rattle.log_replay.specs.declared.numbers.TheConstants.{MAX_COMMITS}
 use Rattle.table_log.specs.Log.{Log, log_folder, commit_name, commit_path, version_at, with_bytes, log_of, digits_of_width}
 use Rattle.table_log.specs.Versions.{commits_at}
 use Rattle.table_log.specs.Agree.{AreUnseen, IsUnseen, FrameUnseen, FrameNext, SaysNext, NextIsAbsent}
@@ -74,17 +75,21 @@ other_log files more u t n bytes unseen other =
 
 -- the laws
 
+-- a number within the limit is that of a commit file
+small : (newest : ℕ) → newest + 1 < MAX_COMMITS → newest + 1 < 2 ^ 63
+small newest room = omega arith
+
 pub frame_unseen : FrameUnseen
 frame_unseen files more unseen = record { all = λ t v. ap (commits_at (Some v)) (log_unseen t files more unseen) }
 
 pub frame_next : FrameNext
-frame_next files more t newest bytes unseen small e = record {
-  before = λ v other. ap (commits_at (Some v)) (next_log files more t (newest + 1) bytes unseen small) ∙ others_stay (log_of t files) newest v bytes e other;
+frame_next files more t newest bytes unseen room e = record {
+  before = λ v other. ap (commits_at (Some v)) (next_log files more t (newest + 1) bytes unseen (small newest room)) ∙ others_stay (log_of t files) newest v bytes room e other;
   elsewhere = λ u v other. ap (commits_at (Some v)) (other_log files more u t (newest + 1) bytes unseen other);
 }
 
 pub says_next : SaysNext
-says_next files more t newest bytes unseen small e = ap (commits_at (Some (newest + 1))) (next_log files more t (newest + 1) bytes unseen small) ∙ next_says (log_of t files) newest bytes e
+says_next files more t newest bytes unseen room e = ap (commits_at (Some (newest + 1))) (next_log files more t (newest + 1) bytes unseen (small newest room)) ∙ next_says (log_of t files) newest bytes room e
 
 pub next_is_absent : NextIsAbsent
 next_is_absent files t newest small e = sym (log-lookup t (newest + 1) files small) ∙ next_absent (log_of t files) newest e

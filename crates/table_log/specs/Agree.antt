@@ -7,6 +7,7 @@ use Rattle.dm_store.specs.Files.{Files, lookup}
 use Rattle.delta_actions.specs.Meaning.{commit_of}
 use Rattle.log_replay.specs.Live.{numbered}
 use Rattle.log_replay.specs.declared.commits.Commit.{Commit}
+use Rattle.log_replay.specs.declared.numbers.TheConstants.{MAX_COMMITS}
 use Rattle.table_log.specs.Log.{log_of, version_at, commit_path}
 use Rattle.table_log.specs.Versions.{newest_version, commits_at, good_lines}
 
@@ -38,16 +39,17 @@ pub record AreUnseen (files : Files) : Type 0 where
 abbrev pub FrameUnseen : Type 0
 FrameUnseen = (files more : Files) → AreUnseen more → Agree files (files ++ more)
 
--- unseen files, and behind them the commit file of the version behind the newest of a table, change that version alone
+-- unseen files, and behind them the commit file of the version behind the newest of a table with room for one more
+-- commit, change that version alone
 abbrev pub FrameNext : Type 0
 FrameNext = (files more : Files) (table : List ℕ) (newest : ℕ) (bytes : List ℕ) → AreUnseen more
-    → newest + 1 < 2 ^ 63 → newest_version (log_of table files) ≡ Ok newest
+    → newest + 1 < MAX_COMMITS → newest_version (log_of table files) ≡ Ok newest
     → AgreeBut table (newest + 1) files (files ++ (more ++ (commit_path table (newest + 1), bytes) ∷ []))
 
 -- what that version then says: the commits before it, and the actions of the file
 abbrev pub SaysNext : Type 0
 SaysNext = (files more : Files) (table : List ℕ) (newest : ℕ) (bytes : List ℕ) → AreUnseen more
-    → newest + 1 < 2 ^ 63 → newest_version (log_of table files) ≡ Ok newest
+    → newest + 1 < MAX_COMMITS → newest_version (log_of table files) ≡ Ok newest
     → said_at table (newest + 1) (files ++ (more ++ (commit_path table (newest + 1), bytes) ∷ []))
     ≡ go (said_at table newest files) (λ commits.
     go (good_lines (newest + 1) (commit_of bytes)) (λ actions. Ok (commits ++ numbered (newest + 1) actions ∷ [])))

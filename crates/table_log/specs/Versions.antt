@@ -3,6 +3,7 @@ use Rattle.std.specs.Prelude.{ℕ, zero, suc, ◌+◌, List, [], ◌∷◌, ◌+
 use Rattle.std.specs.Map as entries
 use Rattle.dm_types.specs.declared.refusal.TableRefusal.{TableRefusal}
 use Rattle.dm_types.specs.declared.refusal.TableRefusal.TheVariants as refusal
+use Rattle.dm_types.specs.declared.refusal.Counted.TheVariants as counted
 use Rattle.dm_types.specs.Then.{go}
 use Rattle.delta_actions.specs.declared.action.Action.{Action}
 use Rattle.delta_actions.specs.Meaning.{commit_of}
@@ -17,6 +18,7 @@ use Rattle.table_log.specs.Log.{Log, bytes_of}
 abbrev pub of_numbers : Result ℕ NumberFault → Result ℕ TableRefusal
 of_numbers (Ok newest) = Ok newest
 of_numbers (Err fault.Nothing) = Err refusal.NoTable
+of_numbers (Err fault.TooMany) = Err (refusal.TooLarge counted.Commits)
 of_numbers (Err (fault.Gap version)) = Err (refusal.LogGap version)
 
 -- the newest version of a log

@@ -44,7 +44,7 @@ use Rattle.table_load.specs.Loaded.{opened_for}
 use Rattle.table_load.specs.OpenedForWriting.{has_room, writable}
 use Rattle.table_load.specs.declared.head.Head.{Head}
 use Rattle.table_load.specs.declared.loaded.Purpose.TheVariants as purpose
-use Rattle.table_load.specs.declared.opened_for_writing.TheConstants.{MAX_COMMITS}
+use Rattle.log_replay.specs.declared.numbers.TheConstants.{MAX_COMMITS}
 use Rattle.commit_log.specs.Block.{files_of, block_of, commit_file}
 use Rattle.commit_log.specs.Commits.{AllPut, SomePut, ReadsBack}
 use Rattle.commit_log.specs.declared.new_files.NewFiles.{NewFiles}
@@ -72,10 +72,10 @@ state_from (Some s) found e = cc
 readable_same : (table found : Snapshot) → readable table ≡ Ok found → found ≡ table
 readable_same table found e = let (u, first, second) = went (unless_fault table.protocol (read_fault table.protocol)) (λ _. Ok table) found e in cc
 
-room_from : (newest : ℕ) → has_room newest ≡ Ok tt → newest + 1 < 2 ^ 63
+room_from : (newest : ℕ) → has_room newest ≡ Ok tt → newest + 1 < MAX_COMMITS
 room_from newest e = by (nat_lt (newest + 1) MAX_COMMITS) refl
   where
-    by : (test : Bool) → nat_lt (newest + 1) MAX_COMMITS ≡ test → newest + 1 < 2 ^ 63
+    by : (test : Bool) → nat_lt (newest + 1) MAX_COMMITS ≡ test → newest + 1 < MAX_COMMITS
     by true is = grind (arith, nat_tests)
     by false is = let refused : cond false (Ok tt) (Err (refusal.TooLarge counted.Commits)) ≡ Ok tt = subst (λ (b : Bool). cond b (Ok tt) (Err (refusal.TooLarge counted.Commits)) ≡ Ok tt) is e in cc
 
@@ -88,9 +88,9 @@ pub record WasOpen (folder : List ℕ) (files : Files) (table : Snapshot) : Type
   pub snapshot : it.head.snapshot ≡ table
   pub state : snapshot_of commits ≡ Some table
   pub plain : AllByRecursion (λ (add : AddAction). add.deletion_vector ≡ false) table.live
-  pub room : table.version + 1 < 2 ^ 63
+  pub room : table.version + 1 < MAX_COMMITS
 
-was_writable : (table : Snapshot) → writable table ≡ Ok tt → table.version + 1 < 2 ^ 63
+was_writable : (table : Snapshot) → writable table ≡ Ok tt → table.version + 1 < MAX_COMMITS
 unfolding writable
 was_writable table e =
     let (v, written, rest) = went (unless_fault table.protocol (write_fault table.protocol)) _ tt e in
@@ -147,7 +147,7 @@ opened_was plain folder files it e =
       snapshot = refl;
       state = state_behind commits it.head behind;
       plain = recursion_from_All (λ (add : AddAction). add.deletion_vector ≡ false) it.head.snapshot.live (plain folder None files it here);
-      room = subst (λ (o : Opened). o.head.snapshot.version + 1 < 2 ^ 63) is (was_writable found.head.snapshot passes);
+      room = subst (λ (o : Opened). o.head.snapshot.version + 1 < MAX_COMMITS) is (was_writable found.head.snapshot passes);
     }
 
 deleted_from : FilesArePlain → (folder : List ℕ) (files : Files) (table : Snapshot) → deletable folder files ≡ Ok table → WasOpen folder files table
@@ -293,7 +293,7 @@ emptied laws folder text files table time passed built line =
     let bytes = commit_text actions in
     let back : commit_of bytes ≡ Ok actions = built (actions_writable time table live_forms was.plain) in
     let unseen : AreUnseen [] = record { each = tt } in
-    let fits : was.newest + 1 < 2 ^ 63 = omega (arith, newest_is, was.room) in
+    let fits : was.newest + 1 < MAX_COMMITS = omega (arith, newest_is, was.room) in
     let now : files ++ block_of (deletion folder table time) ≡ files ++ ([] ++ (commit_path folder (was.newest + 1), bytes) ∷ []) = ap (λ (fs : Files). files ++ (fs ++ (commit_path folder (table.version + 1), bytes) ∷ [])) (files_none folder table time) ∙ ap (λ (n : ℕ). files ++ ([] ++ (commit_path folder (n + 1), bytes) ∷ [])) newest_is in
     let said : said_at folder was.newest files ≡ Ok was.commits = said_newest (log_of folder files) was.newest was.commits was.opened.was was.opened.read in
     let paths : AllByRecursion (λ path. removes actions path ≡ true) (paths_of (live_adds was.commits)) = subst (λ (live : List AddAction). AllByRecursion (λ path. removes actions path ≡ true) (paths_of live)) state.1 (behind (action.Info (record { operation = codes "DELETE"; timestamp = time })) (map (λ add. action.Remove (removal_of time add)) table.live) (map (λ (a : AddAction). a.path) table.live) (removes_each time table.live)) in

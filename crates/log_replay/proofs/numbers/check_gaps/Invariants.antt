@@ -1,6 +1,6 @@
 use Rattle.std.proofs.Common.{◌≡◌, ◌+◌, length}
 use Rattle.log_replay.proofs.Counting.{IsCounted}
-use Rattle.log_replay.proofs.numbers.check_numbers.Given as goal
+use Rattle.log_replay.proofs.numbers.check_gaps.Given as goal
 
 abbrev pub invariant-loop-number : goal.invariant-loop-number
 invariant-loop-number l = record {
