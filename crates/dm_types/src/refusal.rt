@@ -133,13 +133,72 @@ pub enum TableRefusal {
     },
 }
 
-/// Why a table that is opened keeps a statement off: what its checks find before anything is put.
+/// Why a statement is refused besides what opening its tables finds, and before anything is put.
 #[derive(Debug, PartialEq, Eq, Drop)]
 pub enum StatementRefusal {
+    /// `S1`: the table that is to be created is there.
+    TableExists,
+    /// `S2`: what is defined isn't a table.
+    BadDefinition {
+        /// The byte of the script where the first fault stands, counted from 0.
+        at: u64,
+    },
+    /// `S3`: the statement doesn't type.
+    DoesNotType {
+        /// The rule that is broken, from 1 to 15.
+        rule: u8,
+        /// The byte of the script where it is broken, counted from 0.
+        at: u64,
+    },
     /// `S4`: the table takes new rows only.
     AppendOnly,
     /// `S5`: the table doesn't track its rows.
     RowTrackingOff,
+    /// `S6`: an identity column is assigned that takes no values.
+    IdentityWrite {
+        /// The column's name.
+        column: Text,
+    },
+    /// `S7`: an expression has no value on a row.
+    EvalError {
+        /// 1: a number is out of the range of its type. 2: a division by 0. 3: a text, or bytes, that
+        /// don't read as a value of the type.
+        kind: u8,
+    },
+    /// `S8`: a target row has a second match.
+    SecondMatch,
+    /// `S9`: the next value of an identity column is out of range.
+    IdentityOverflow {
+        /// The column's name.
+        column: Text,
+    },
+    /// `S10`: a given value isn't that of the column's generation expression.
+    GeneratedMismatch {
+        /// The column's name.
+        column: Text,
+    },
+    /// `S11`: a row that is written has null in a column that takes none.
+    NotNull {
+        /// The column's name.
+        column: Text,
+    },
+    /// `S12`: a CHECK isn't true on a row that is written.
+    CheckFailed {
+        /// The name of the CHECK.
+        name: Text,
+    },
+    /// `S13`: the ids of rows are used up.
+    RowIdsExhausted,
+    /// `S14`: the change feed is off.
+    FeedOff {
+        /// The first such version.
+        version: u64,
+    },
+    /// `S15`: the columns aren't those of the feed's last version.
+    FeedSchemaChanged {
+        /// The first such version.
+        version: u64,
+    },
 }
 
 /// Why the files of a new version aren't put: what stands at their paths, which no check looks at.
@@ -162,7 +221,7 @@ pub enum PutRefusal {
 pub enum Refused {
     /// The table isn't opened.
     Table(TableRefusal),
-    /// The table is opened, and keeps the statement off.
+    /// A check of the statement fails.
     Statement(StatementRefusal),
     /// The statement passes its checks, and its new files find a path taken.
     Put(PutRefusal),
