@@ -1,6 +1,7 @@
 -- What is broken in an expression, and what is told of it.
 use Rattle.std.specs.Prelude.{◌≡◌, ⊤, ℕ, Bool, ◌&&◌, ◌||◌, ◌==◌, nat_lt, if◌then◌else◌, List, [], ◌∷◌, ◌++◌, Option, Some, None, Result, Ok, Err}
 use Rattle.std.specs.List.{fold}
+use Rattle.std.specs.declared.alloc.AllocError.{AllocError}
 use Rattle.typed_expr.specs.declared.broken.Broken.{Broken}
 use Rattle.typed_expr.specs.declared.fault.TypeFault.{TypeFault}
 use Rattle.typed_expr.specs.declared.fault.TypeFault.TheVariants as fault
@@ -50,3 +51,9 @@ abbrev pub Answers : {A : Type 0} → Typing A → Result A TypeFault → Type 0
 Answers form (Ok a) = form ≡ Ok a
 Answers form (Err (fault.Rule rule at)) = form ≡ breaks rule at
 Answers form (Err fault.Memory) = ⊤
+
+-- what is broken, apart from want of memory
+abbrev pub split_of : {A : Type 0} → Result A TypeFault → Result (Typing A) AllocError
+split_of (Ok a) = Ok (Ok a)
+split_of (Err (fault.Rule rule at)) = Ok (breaks rule at)
+split_of (Err fault.Memory) = Err (record {})

@@ -1,6 +1,5 @@
 -- How the answer of a call is taken apart: what private functions do.
-use Rattle.std.specs.Prelude.{Bool, List, map, Option, option_map, Result, Ok, Err}
-use Rattle.std.specs.declared.alloc.AllocError.{AllocError}
+use Rattle.std.specs.Prelude.{Bool, List, map, Option, option_map}
 use Rattle.sql_tree.specs.declared.token.Span.{Span}
 use Rattle.sql_tree.specs.declared.tree.Expr.{Expr}
 use Rattle.sql_tree.specs.declared.tree.Name.{Name}
@@ -13,16 +12,8 @@ use Rattle.typed_expr.specs.declared.scope.ScopeColumn.{ScopeColumn}
 use Rattle.typed_expr.specs.declared.tree.TypedExpr.{TypedExpr}
 use Rattle.typed_expr.specs.Forms as form
 use Rattle.typed_expr.specs.Judging.{first_at}
-use Rattle.typed_expr.specs.Rules.{Typing, breaks, both, all, ◌>>=◌}
+use Rattle.typed_expr.specs.Rules.{Typing, both, all, ◌>>=◌}
 use Rattle.typed_expr.specs.Typing.{typing, parted, branch_of, otherwise_of}
-use Rattle.typed_expr.specs.declared.fault.TypeFault.{TypeFault}
-use Rattle.typed_expr.specs.declared.fault.TypeFault.TheVariants as fault
-
--- what is broken, apart from want of memory
-abbrev pub split_of : {A : Type 0} → Result A TypeFault → Result (Typing A) AllocError
-split_of (Ok a) = Ok (Ok a)
-split_of (Err (fault.Rule rule at)) = Ok (breaks rule at)
-split_of (Err fault.Memory) = Err (record {})
 
 -- ---- a form of an expression over what its parts come to
 

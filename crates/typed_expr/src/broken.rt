@@ -2,7 +2,6 @@
 ghost use Rattle.std.specs.Prelude.{◌≡◌, Err, IfOk};
 ghost use Rattle.typed_expr.specs.declared.fault.TypeFault.TheVariants.{Rule};
 ghost use Rattle.typed_expr.specs.Rules as spec;
-ghost use Rattle.typed_expr.specs.Steps.{split_of};
 
 use crate::fault::TypeFault;
 use sqlite_items::Items;
@@ -17,8 +16,8 @@ pub struct Broken {
     pub at: u64,
 }
 
-// What a form comes to, or what is broken in it.
-pub(crate) type Typing<T> = Result<T, Broken>;
+/// What a form comes to, or the rule that is broken in it.
+pub type Typing<T> = Result<T, Broken>;
 
 impl From<Broken> for TypeFault {
     ghost use Rattle.std.specs.Prelude.{◌≡◌};
@@ -74,8 +73,8 @@ fn sooner(broken: Broken, other: Broken) -> Broken
     }
 }
 
-// Both parts, or the sooner of what is broken in them.
-pub(crate) fn both<A: Drop, B: Drop>(part: Typing<A>, other: Typing<B>) -> Typing<(A, B)>
+/// Both parts, or the sooner of what is broken in them: at the lesser place, and there the lesser rule.
+pub fn both<A: Drop, B: Drop>(part: Typing<A>, other: Typing<B>) -> Typing<(A, B)>
     ensures { result ≡ spec.both part other }
 {
     match (part, other) {
@@ -85,8 +84,8 @@ pub(crate) fn both<A: Drop, B: Drop>(part: Typing<A>, other: Typing<B>) -> Typin
     }
 }
 
-// A part behind those that were found.
-pub(crate) fn collected<T: Drop>(
+/// A part behind those that were found, or the sooner of what is broken in them.
+pub fn collected<T: Drop>(
     found: Typing<Items<T>>,
     part: Typing<T>,
 ) -> Result<Typing<Items<T>>, AllocError>
@@ -101,9 +100,9 @@ pub(crate) fn collected<T: Drop>(
     }
 }
 
-// What is broken, apart from want of memory.
-pub(crate) fn split<T>(answer: Result<T, TypeFault>) -> Result<Typing<T>, AllocError>
-    ensures { result ≡ split_of answer }
+/// What is broken, apart from want of memory.
+pub fn split<T>(answer: Result<T, TypeFault>) -> Result<Typing<T>, AllocError>
+    ensures { result ≡ spec.split_of answer }
 {
     match answer {
         Ok(found) => Ok(Ok(found)),

@@ -16,7 +16,7 @@ mod scope;
 mod tree;
 mod typing;
 
-pub use broken::Broken;
+pub use broken::{Broken, Typing, both, collected, split};
 pub use fault::TypeFault;
 pub use kinds::is_type;
 pub use scope::{Scope, ScopeColumn};

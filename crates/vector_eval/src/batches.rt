@@ -122,6 +122,8 @@ pub fn eval<'a>(
         ≡ map (spec.found_or Null) (spec.values_on expr.now batch.now.columns selection.now)) }
     ensures faults { IfOk result (λ outcome. outcome.faults
         ≡ spec.faults_from 0 (spec.values_on expr.now batch.now.columns selection.now)) }
+    // Where each value of the batch is null or in the range of its type, so is each that comes out.
+    ensures range { All spec.IsRanged batch.now.columns → IfOk result (λ outcome. spec.IsRanged outcome.column) }
 {
     let columns = batch.columns.as_slice();
     what_reads_is_in_range();
@@ -209,4 +211,33 @@ pub fn holds<'a>(
         push_truth(&mut kept, &outcome)?;
     }
     Ok(Held { kept, faults })
+}
+
+// ---- errors
+
+fn has_kind(faults: &[(usize, ErrorKind)], kind: ErrorKind) -> bool
+    ensures { result ≡ spec.has_kind kind (map (λ fault. fault.1) faults.now) }
+{
+    for fault in faults {
+        if fault.1.number() == kind.number() {
+            return true;
+        }
+    }
+    false
+}
+
+/// The kind of error that is told of many: the least, if there is one.
+pub fn least_kind(faults: &FaultList) -> Option<ErrorKind>
+    ensures { result ≡ spec.least_kind (map (λ fault. fault.1) faults.now) }
+{
+    let faults = faults.as_slice();
+    if has_kind(faults, ErrorKind::Overflow) {
+        Some(ErrorKind::Overflow)
+    } else if has_kind(faults, ErrorKind::DivideByZero) {
+        Some(ErrorKind::DivideByZero)
+    } else if has_kind(faults, ErrorKind::BadCast) {
+        Some(ErrorKind::BadCast)
+    } else {
+        None
+    }
 }

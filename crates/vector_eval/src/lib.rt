@@ -11,6 +11,6 @@ mod numbers;
 mod operators;
 mod truths;
 
-pub use batches::{FaultList, Held, Outcome, eval, holds};
+pub use batches::{FaultList, Held, Outcome, eval, holds, least_kind};
 pub use evaluation::eval_row;
 pub use fault::{ErrorKind, EvalFault};
