@@ -1,4 +1,5 @@
 // Tokens, and trees.
+mod selects;
 mod shown;
 mod tokens;
 mod trees;

@@ -62,7 +62,7 @@ module _ {A : Type 0} {D D' : Lang Token A} (x : Grows D D') (l : Plain D') wher
   next_grows : Grows (valued g.second (both (g.token k.Comma) D)) (valued g.second (both (g.token k.Comma) D'))
   next_grows = valued_grows g.second (both_grows (token_grows k.Comma refl) x (token_local k.Comma))
 
-  commas_grows : Grows (g.commas D) (g.commas D')
+  pub commas_grows : Grows (g.commas D) (g.commas D')
   commas_grows = valued_grows g.list (both_grows x (many_grows next_grows (next_plain l).local) l.local)
 
 -- ---- versions

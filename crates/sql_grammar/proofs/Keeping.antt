@@ -48,7 +48,7 @@ module _ (script : List ℕ) where
   opening zero kind = never_keeps
   opening (suc depth) kind = one_keeps (is kind)
 
-  commas : {A : Type 0} {D : Lang Token A} {Q : A → Type 0} → Keep D Q → Keep (g.commas D) (AllByRecursion Q)
+  pub commas : {A : Type 0} {D : Lang Token A} {Q : A → Type 0} → Keep D Q → Keep (g.commas D) (AllByRecursion Q)
   commas x = valued_keeps (both_keeps x (many_keeps (valued_keeps (both_keeps (token k.Comma) x) g.second (λ p h. h.1)))) g.list (λ p h. h)
 
   some : {A : Type 0} {D : Lang Token A} {Q : A → Type 0} → Keep D Q → Keep (g.some D) (AllByRecursion Q)

@@ -6,3 +6,4 @@ pub mod Growth
 pub mod Holding
 pub mod Keeping
 pub mod Within
+pub mod Tables

@@ -106,7 +106,7 @@ plain_left d k.Close h = absurd (cc)
 plain_left d k.End h = absurd (cc)
 plain_left d _ h = refl
 
-holds_then : (p q : Bool) → (not p || q) ≡ true → p ≡ true → q ≡ true
+pub holds_then : (p q : Bool) → (not p || q) ≡ true → p ≡ true → q ≡ true
 holds_then true q h e = h
 holds_then false q h e = absurd (cc)
 

@@ -5,7 +5,7 @@ use Rattle.dm_types.specs.declared.value.DataType.TheVariants as d
 use Rattle.sql_tree.specs.Places.{slice, IsPlaced}
 use Rattle.sql_tree.specs.declared.token.Span.{Span}
 use Rattle.sql_tree.specs.declared.tree.Name.{Name}
-use Rattle.sql_tree.specs.declared.tree.TableName.{TableName}
+use Rattle.sql_statements.specs.declared.TableName.{TableName}
 use Rattle.sql_tree.specs.declared.tree.Number.{Number}
 use Rattle.sql_tree.specs.declared.tree.Literal.{Literal}
 use Rattle.sql_tree.specs.declared.tree.Literal.TheVariants as l

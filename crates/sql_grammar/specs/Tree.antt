@@ -9,7 +9,7 @@ use Rattle.sql_tree.specs.declared.token.Kind.TheVariants as k
 use Rattle.sql_tree.specs.declared.token.Token.{Token}
 use Rattle.sql_tree.specs.declared.token.Span.{Span}
 use Rattle.sql_tree.specs.declared.tree.Name.{Name}
-use Rattle.sql_tree.specs.declared.tree.TableName.{TableName}
+use Rattle.sql_statements.specs.declared.TableName.{TableName}
 use Rattle.sql_tree.specs.declared.tree.Number.{Number}
 use Rattle.sql_tree.specs.declared.tree.Literal.{Literal}
 use Rattle.sql_tree.specs.declared.tree.Literal.TheVariants as l

@@ -15,7 +15,7 @@ ghost use Rattle.sql_lex.specs.declared.lexer.Before.TheVariants as before;
 ghost use Rattle.sql_tree.specs.Kinds.{any, names_alone, dates};
 ghost use Rattle.sql_tree.specs.declared.token.Token.{Token};
 ghost use Rattle.sql_tree.specs.declared.tree.Expr.{Expr};
-ghost use Rattle.sql_tree.specs.declared.tree.Stmt.{Stmt};
+ghost use Rattle.sql_statements.specs.declared.Stmt.{Stmt};
 
 use sql_tree::Kind;
 

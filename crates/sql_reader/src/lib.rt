@@ -13,7 +13,8 @@ mod tokens;
 
 pub use fault::ScriptFault;
 pub use read::{read_expr, read_script};
+pub use sql_statements::{SelectItem, SelectItemList, SelectItems, Stmt, Stmts, TableName};
 pub use sql_tree::{
-    Branches, Expr, Exprs, Literal, Name, Number, Operator, Prefix, Span, Stmt, Stmts, TableName,
-    Truth, WrittenKind, WrittenType,
+    Branches, Expr, Exprs, Literal, Name, Number, Operator, Prefix, Span, Truth, WrittenKind,
+    WrittenType,
 };

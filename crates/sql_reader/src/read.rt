@@ -6,14 +6,15 @@ ghost use Rattle.sql_grammar.specs.Held.{HoldsExpr};
 ghost use Rattle.sql_grammar.specs.Statements as statements;
 ghost use Rattle.sql_grammar.specs.Statements.{HoldsStmt};
 ghost use Rattle.sql_tree.specs.declared.tree.Expr.{Expr};
-ghost use Rattle.sql_tree.specs.declared.tree.Stmt.{Stmt};
+ghost use Rattle.sql_statements.specs.declared.Stmt.{Stmt};
 ghost use Rattle.sql_reader.specs.Answers.{IsRead, IsPlace};
 
 use crate::fault::ScriptFault;
 use crate::statement::{expression_of, script_of};
 use sql_grammar::trees_are_held;
 use sql_lex::{read_tokens_of, spans_ascend, tokens_mean};
-use sql_tree::{Expr, Stmts};
+use sql_statements::Stmts;
+use sql_tree::Expr;
 use std::alloc::Global;
 
 /// The statements of a script, in order. Places in them, and in the fault, count the script's bytes

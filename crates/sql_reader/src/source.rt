@@ -5,7 +5,8 @@ ghost use Rattle.sql_tree.specs.Places.{slice};
 
 use dm_types::{Bytes, Text};
 use sql_lex::{bytes_of, name_of, number_of, table_of, text_of};
-use sql_tree::{Name, Number, Span, TableName};
+use sql_statements::TableName;
+use sql_tree::{Name, Number, Span};
 use std::alloc::{AllocError, Global};
 use std::marker::Model;
 

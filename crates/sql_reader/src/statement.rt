@@ -4,7 +4,7 @@ ghost use Rattle.token_lang.specs.Run.{to_end};
 ghost use Rattle.sql_grammar.specs.Reading as reading;
 ghost use Rattle.sql_grammar.specs.Grammar as grammar;
 ghost use Rattle.sql_grammar.specs.Statements as statements;
-ghost use Rattle.sql_tree.specs.declared.tree.Stmt.{Stmt};
+ghost use Rattle.sql_statements.specs.declared.Stmt.{Stmt};
 ghost use Rattle.sql_tree.specs.declared.tree.Expr.{Expr};
 ghost use Rattle.sql_reader.specs.Steps.{Yields};
 ghost use Rattle.sql_reader.specs.Answers.{IsRead, IsPlace};
@@ -15,7 +15,8 @@ use crate::fault::{Fault, ScriptFault};
 use crate::source::Source;
 use crate::tokens::Tokens;
 use dm_types::Items;
-use sql_tree::{Expr, Kind, Stmt, Stmts, Token};
+use sql_statements::{SelectItem, SelectItemList, SelectItems, Stmt, Stmts};
+use sql_tree::{Expr, Kind, Name, Token};
 use std::alloc::Global;
 
 // How many brackets and CASEs of an expression may be open at once.
@@ -106,6 +107,101 @@ fn show(source: &Source<'_>, tokens: &mut Tokens<'_>) -> Result<Stmt, Fault>
     shown(source, tokens)
 }
 
+// A name behind AS.
+fn alias(source: &Source<'_>, tokens: &mut Tokens<'_>) -> Result<Name, Fault>
+    ensures { Yields (statements.run_alias source.now tokens.old) result tokens.new }
+{
+    tokens.take(Kind::As)?;
+    let name = tokens.take_any(Class::Name)?;
+    Ok(source.name_at(name.span)?)
+}
+
+// The name of an item, if it has one.
+fn maybe_alias(source: &Source<'_>, tokens: &mut Tokens<'_>) -> Result<Option<Name>, Fault>
+    ensures { Yields (statements.run_maybe_alias source.now tokens.old) result tokens.new }
+{
+    if tokens.sees(Kind::As) {
+        return Ok(Some(alias(source, tokens)?));
+    }
+    Ok(None)
+}
+
+// An expression and its name.
+fn select_item(source: &Source<'_>, tokens: &mut Tokens<'_>) -> Result<SelectItem, Fault>
+    ensures { Yields (statements.run_select_item source.now tokens.old) result tokens.new }
+{
+    let expr = expression(source, tokens)?;
+    let alias = maybe_alias(source, tokens)?;
+    Ok(SelectItem { expr, alias })
+}
+
+// A comma and an item.
+fn next_item(source: &Source<'_>, tokens: &mut Tokens<'_>) -> Result<SelectItem, Fault>
+    ensures { Yields (reading.run_next (statements.run_select_item source.now) tokens.old) result tokens.new }
+{
+    tokens.take(Kind::Comma)?;
+    select_item(source, tokens)
+}
+
+// Items with commas between them.
+fn listed(source: &Source<'_>, tokens: &mut Tokens<'_>) -> Result<SelectItemList, Fault>
+    ensures { Yields (statements.run_listed source.now tokens.old) result tokens.new }
+{
+    let mut all = Items::new(source.alloc());
+    all.push(select_item(source, tokens)?)?;
+    'items: while tokens.sees(Kind::Comma) {
+        all.push(next_item(source, tokens)?)?;
+    }
+    Ok(all)
+}
+
+// What a SELECT asks for.
+fn select_items(source: &Source<'_>, tokens: &mut Tokens<'_>) -> Result<SelectItems, Fault>
+    ensures { Yields (statements.run_select_items source.now tokens.old) result tokens.new }
+{
+    if tokens.sees(Kind::Star) {
+        tokens.take(Kind::Star)?;
+        return Ok(SelectItems::All);
+    }
+    Ok(SelectItems::Listed(listed(source, tokens)?))
+}
+
+// WHERE
+fn where_condition(source: &Source<'_>, tokens: &mut Tokens<'_>) -> Result<Expr, Fault>
+    ensures { Yields (statements.run_where source.now tokens.old) result tokens.new }
+{
+    tokens.take(Kind::Where)?;
+    expression(source, tokens)
+}
+
+// The condition, if there is one.
+fn maybe_where(source: &Source<'_>, tokens: &mut Tokens<'_>) -> Result<Option<Expr>, Fault>
+    ensures { Yields (statements.run_maybe_where source.now tokens.old) result tokens.new }
+{
+    if tokens.sees(Kind::Where) {
+        return Ok(Some(where_condition(source, tokens)?));
+    }
+    Ok(None)
+}
+
+// SELECT
+fn select(source: &Source<'_>, tokens: &mut Tokens<'_>) -> Result<Stmt, Fault>
+    ensures { Yields (statements.run_select source.now tokens.old) result tokens.new }
+{
+    tokens.take(Kind::Select)?;
+    let items = select_items(source, tokens)?;
+    tokens.take(Kind::From)?;
+    let table = tokens.take_any(Class::Table)?;
+    let version = maybe_at_version(source, tokens)?;
+    let condition = maybe_where(source, tokens)?;
+    Ok(Stmt::Select {
+        items,
+        table: source.table_at(table.span)?,
+        version,
+        condition,
+    })
+}
+
 // DELETE
 fn delete(source: &Source<'_>, tokens: &mut Tokens<'_>) -> Result<Stmt, Fault>
     ensures { Yields (statements.run_delete source.now tokens.old) result tokens.new }
@@ -123,6 +219,9 @@ fn statement(source: &Source<'_>, tokens: &mut Tokens<'_>) -> Result<Stmt, Fault
 {
     if tokens.sees(Kind::Show) {
         return show(source, tokens);
+    }
+    if tokens.sees(Kind::Select) {
+        return select(source, tokens);
     }
     delete(source, tokens)
 }

@@ -1,4 +1,4 @@
-// Expressions and statements, with their places and what stands there.
+// Expressions, with their places and what stands there.
 
 use crate::token::Span;
 use dm_types::{Bytes, DataType, Text};
@@ -10,24 +10,12 @@ pub type Exprs = Items<Expr>;
 /// Conditions, each with the value where it is the first that holds.
 pub type Branches = Items<(Expr, Expr)>;
 
-/// The statements of a script, in order.
-pub type Stmts = dm_types::Items<Stmt>;
-
 /// The name of a column, a qualifier or a function.
 #[derive(Drop)]
 pub struct Name {
     /// Where it stands, with its backquotes.
     pub span: Span,
     /// The word, or what stands in backquotes, of two backquotes one.
-    pub text: Text,
-}
-
-/// The name of a table.
-#[derive(Drop)]
-pub struct TableName {
-    /// Where it stands.
-    pub span: Span,
-    /// The name.
     pub text: Text,
 }
 
@@ -221,23 +209,4 @@ impl Expr {
             | Expr::Call { span, .. } => *span,
         }
     }
-}
-
-/// A statement.
-#[derive(Drop)]
-pub enum Stmt {
-    /// `SHOW FILES table`: the paths of the live files of the newest version.
-    ShowFiles {
-        table: TableName,
-    },
-    /// `SHOW ROWS table [VERSION AS OF version]`: the rows of a version, or of the newest where none is
-    /// asked for, with their ids and commit versions.
-    ShowRows {
-        table: TableName,
-        version: Option<u64>,
-    },
-    /// `DELETE FROM table`: removes all rows, as a new version.
-    Delete {
-        table: TableName,
-    },
 }

@@ -252,7 +252,7 @@ const SCRIPTS: [(&[u8], u64); 24] = [
     (b"SHOW FILES t--;", 15),
     (b"SHOW FILESt;", 5),
     (b"SHOW IDENTITIES t;", 5),
-    (b"SELECT * FROM t;", 0),
+    (b"INSERT INTO t VALUES (1);", 0),
     (b"DELETE t;", 7),
     (b"DELETE FROM t WHERE a;", 14),
     (b"DELETE FROM X'00;", 13),
@@ -374,7 +374,7 @@ fn expr_place(alloc: Global, bytes: &[u8]) -> Option<u64> {
 }
 
 /// The same, as a script.
-fn script_place(alloc: Global, bytes: &[u8]) -> Option<u64> {
+pub(super) fn script_place(alloc: Global, bytes: &[u8]) -> Option<u64> {
     match read_script(alloc, bytes) {
         Ok(_) => Some(bytes.len() as u64),
         Err(ScriptFault::BadScript { at }) => Some(at),
@@ -394,7 +394,7 @@ fn asks_for_rows(alloc: Global, bytes: &[u8], name: &str, wanted: Option<u64>) -
 }
 
 /// Adds the part as often.
-fn repeat(out: &mut Vec<u8>, part: &[u8], count: usize) -> Result<(), AllocError> {
+pub(super) fn repeat(out: &mut Vec<u8>, part: &[u8], count: usize) -> Result<(), AllocError> {
     for _ in 0..count {
         out.extend_from_slice(part)?;
     }
