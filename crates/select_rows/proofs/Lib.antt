@@ -1,0 +1,4 @@
+pub mod ByPlace
+mod Fitted
+mod Typed
+mod Valued
