@@ -1,7 +1,6 @@
 // Tests of delta_actions, log_replay, table_features, table_log, table_load and commit_log.
 mod actions;
 mod features;
-mod files;
 mod loaded;
 mod names;
 mod put;

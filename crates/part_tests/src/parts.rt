@@ -1,0 +1,137 @@
+// The file of an action, as `load_part` reads it.
+use crate::files::{CHANGES, ONE_ROW, TWO_ROWS};
+use data_file::{PartRows, Room};
+use dm_store::{MemoryStore, Store};
+use dm_types::{CountList, PartitionValues, Stop, TableRefusal, Text, Value};
+use std::alloc::{AllocError, Global};
+use std::test::Fail;
+use table_load::{Head, PartView, load_head, load_part};
+
+// A table of `k` and `v`.
+const LOG: &str = concat!(
+    r#"{"protocol":{"minReaderVersion":1,"minWriterVersion":2}}"#,
+    "\n",
+    r#"{"metaData":{"id":"i","schemaString":"{\"type\":\"struct\",\"fields\":[{\"name\":\"k\",\"type\":\"long\",\"nullable\":true,\"metadata\":{}},{\"name\":\"v\",\"type\":\"string\",\"nullable\":true,\"metadata\":{}}]}"}}"#,
+    "\n",
+);
+
+const FILES: [(&str, &[u8]); 3] = [
+    ("t/one row", ONE_ROW),
+    ("t/two", TWO_ROWS),
+    ("t/_change_data/c", CHANGES),
+];
+
+fn store_of(alloc: Global) -> Result<MemoryStore, Fail> {
+    let mut store = MemoryStore::new(alloc, CountList::new(alloc), CountList::new(alloc))?;
+    store.put_new("t/_delta_log/00000000000000000000.json", LOG.as_bytes())?;
+    for (path, bytes) in FILES {
+        store.put_new(path, bytes)?;
+    }
+    Ok(store)
+}
+
+// The file of an action, read with the columns of the table's newest version.
+fn part_of(
+    alloc: Global,
+    store: &mut MemoryStore,
+    path: &Text,
+    deletion_vector: bool,
+    change: bool,
+) -> Result<PartRows, Stop> {
+    let table = Text::from_str(alloc, "t")?;
+    let values = PartitionValues::new(alloc);
+    let view = PartView {
+        path,
+        values: &values,
+        deletion_vector,
+        change,
+    };
+    let head = load_head(alloc, store, &table, None)?;
+    load_part(alloc, store, &table, &head, &view, &Room::whole())
+}
+
+// How many rows a file has, and how many cells it leaves.
+type Size = (usize, u64);
+
+fn size_of(part: Result<PartRows, Stop>) -> Option<Size> {
+    let part = part.ok()?;
+    Some((part.batch.rows, part.left.cells))
+}
+
+fn refusal_of(part: Result<PartRows, Stop>) -> Option<Stop> {
+    part.err()
+}
+
+// The kinds of changes of a file, in the order of its rows.
+fn kinds_are(part: Result<PartRows, Stop>, wanted: &[&str]) -> Result<bool, AllocError> {
+    let Ok(part) = part else {
+        return Ok(false);
+    };
+    let Some(kinds) = part.kinds else {
+        return Ok(false);
+    };
+    for (place, kind) in wanted.iter().enumerate() {
+        if place >= kinds.len() {
+            return Ok(false);
+        }
+        match kinds.get(place)? {
+            Value::Text(text) if text.as_str() == *kind => {}
+            _ => return Ok(false),
+        }
+    }
+    Ok(kinds.len() == wanted.len())
+}
+
+// A path as it is logged, whether the action has a deletion vector, and whether it is a change file's.
+type Told = (&'static str, bool, bool);
+
+const SIZES: [(Told, Option<Size>); 5] = [
+    (("one%20row", false, false), Some((1, 19_999_998))),
+    (("two", false, false), Some((2, 19_999_996))),
+    (("_change_data/c", false, false), Some((2, 19_999_996))),
+    (("_change_data/c", false, true), Some((2, 19_999_996))),
+    // a change file has the kinds of its changes
+    (("two", false, true), None),
+];
+
+#[test]
+fn files_are_read_by_their_actions(rt: HostRuntime) -> Result<(), Fail> {
+    let alloc = rt.alloc();
+    let mut store = store_of(alloc)?;
+    for ((path, vector, change), wanted) in SIZES {
+        let path = Text::from_str(alloc, path)?;
+        let part = part_of(alloc, &mut store, &path, vector, change);
+        assert!(rt; size_of(part) == wanted);
+    }
+    Ok(())
+}
+
+#[test]
+fn changes_have_their_kinds(rt: HostRuntime) -> Result<(), Fail> {
+    let alloc = rt.alloc();
+    let mut store = store_of(alloc)?;
+    let path = Text::from_str(alloc, "_change_data/c")?;
+    let part = part_of(alloc, &mut store, &path, false, true);
+    assert!(rt; kinds_are(part, &["delete", "insert"])?);
+    Ok(())
+}
+
+#[test]
+fn the_first_check_of_a_file_decides(rt: HostRuntime) -> Result<(), Fail> {
+    let alloc = rt.alloc();
+    let mut store = store_of(alloc)?;
+    let path = Text::from_str(alloc, "../absent")?;
+    let part = part_of(alloc, &mut store, &path, true, false);
+    let vector = TableRefusal::DeletionVector {
+        path: path.clone()?,
+    };
+    assert!(rt; refusal_of(part) == Some(Stop::from(vector)));
+    let part = part_of(alloc, &mut store, &path, false, false);
+    let outside = TableRefusal::BadPath { path };
+    assert!(rt; refusal_of(part) == Some(Stop::from(outside)));
+    let path = Text::from_str(alloc, "absent")?;
+    let part = part_of(alloc, &mut store, &path, false, false);
+    let missing = TableRefusal::MissingFile { path };
+    assert!(rt; refusal_of(part) == Some(Stop::from(missing)));
+    Ok(())
+}
