@@ -26,6 +26,7 @@ runs() {
 log=_delta_log/00000000000000000000.json
 cp -r "$examples/sales" sales
 runs 'the example' "$(<"$examples/show.sql")" "$(<"$examples/show.expected")" 0
+runs 'the example of SELECT' "$(<"$examples/select.sql")" "$(<"$examples/select.expected")" 0
 runs 'the example of DELETE' "$(<"$examples/delete.sql")" "$(<"$examples/delete.expected")" 0
 runs 'rows of a version before a DELETE' 'SHOW ROWS sales VERSION AS OF 0;' "$(tail -n 6 "$examples/show.expected")" 0
 

@@ -16,7 +16,7 @@ use Rattle.script_run.specs.declared.outcome.Outcome.{Outcome}
 use Rattle.script_run.specs.declared.status.Status.{Status}
 use Rattle.script_run.specs.declared.status.Status.TheVariants as status
 use Rattle.script_run.specs.Outcome.{ending, usage_line, refused_line, IsDueOf, usage, scripted, too_long}
-use Rattle.sql_tree.specs.declared.tree.Stmt.{Stmt}
+use Rattle.sql_statements.specs.declared.Stmt.{Stmt}
 use Rattle.script_run.specs.Ran.{Ran, whole, line_cut, line_unwritten, ended, ran, unread, no_memory}
 use Rattle.script_run.specs.Reaching.{Reaches, EndsRun, RunsAll, status_of_fault}
 use Rattle.script_run.proofs.Turns.{appends_none, appends_same}

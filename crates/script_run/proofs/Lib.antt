@@ -1,7 +1,11 @@
+mod AnyOrder
+mod Answering
 mod ByteOrder
 mod Ending
 mod RowText
+mod Selecting
 mod Showing
 mod ShowingRows
 mod Starting
 mod Turns
+mod ValueLines

@@ -11,7 +11,7 @@ use Rattle.row_tracking.specs.declared.row_id.RowId.{RowId}
 use Rattle.script_run.specs.RowLines.{number, row_line}
 use Rattle.script_run.specs.StepsRows.{value_at, cells_text, line_at}
 
-joined-more : (x : List ℕ) (columns : List Cells) (place : ℕ) → join_with_byte 9 (x ∷ map value_field (map (value_at place) columns)) ≡ x ++ cells_text columns place
+pub joined-more : (x : List ℕ) (columns : List Cells) (place : ℕ) → join_with_byte 9 (x ∷ map value_field (map (value_at place) columns)) ≡ x ++ cells_text columns place
 joined-more x [] place = simp append-nil
 joined-more x (column ∷ columns) place = ap (λ (rest : List ℕ). x ++ 9 ∷ rest) (joined-more (value_field (value_at place column)) columns place)
 

@@ -30,14 +30,14 @@ use Rattle.table_load.specs.declared.loaded.Purpose.TheVariants as purpose
 
 -- ---- reading asks for no more than opening
 
-abbrev read : Result Opened TableRefusal → Result Opened TableRefusal
+abbrev pub read : Result Opened TableRefusal → Result Opened TableRefusal
 read all = go all (λ it. go (permitted purpose.Read it.head.snapshot) (λ _. Ok it))
 
-opened : (all : Result Opened TableRefusal) (it : Opened) → read all ≡ Ok it → all ≡ Ok it
+pub opened : (all : Result Opened TableRefusal) (it : Opened) → read all ≡ Ok it → all ≡ Ok it
 opened (Ok other) it is = is
 opened (Err refusal) it is = is
 
-not_opened : (all : Result Opened TableRefusal) (refusal : TableRefusal) → read all ≡ Err refusal → all ≡ Err refusal
+pub not_opened : (all : Result Opened TableRefusal) (refusal : TableRefusal) → read all ≡ Err refusal → all ≡ Err refusal
 not_opened (Ok other) refusal is = absurd cc
 not_opened (Err other) refusal is = cc
 

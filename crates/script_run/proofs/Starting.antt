@@ -7,7 +7,7 @@ use Rattle.sql_lex.specs.Tokens.{tokens}
 use Rattle.sql_reader.specs.Answers.{IsRead, IsPlace}
 use Rattle.sql_reader.specs.declared.fault.ScriptFault.{ScriptFault}
 use Rattle.sql_reader.specs.declared.fault.ScriptFault.TheVariants as fault
-use Rattle.sql_tree.specs.declared.tree.Stmt.{Stmt}
+use Rattle.sql_statements.specs.declared.Stmt.{Stmt}
 use Rattle.script_run.specs.declared.outcome.Due.TheVariants as due
 use Rattle.script_run.specs.declared.outcome.Outcome.{Outcome}
 use Rattle.script_run.specs.declared.status.Status.TheVariants as status

@@ -7,7 +7,7 @@ use Rattle.dm_store.specs.Streams.{Writes}
 use Rattle.dm_store.specs.declared.faults.SinkFault.{SinkFault}
 use Rattle.dm_store.specs.declared.faults.SinkFault.TheVariants as sink
 use Rattle.dm_types.specs.declared.refusal.Refused.{Refused}
-use Rattle.sql_tree.specs.declared.tree.Stmt.{Stmt}
+use Rattle.sql_statements.specs.declared.Stmt.{Stmt}
 use Rattle.script_run.specs.declared.status.Status.{Status}
 use Rattle.script_run.specs.declared.status.Status.TheVariants as status
 use Rattle.script_run.specs.Running.{Answer, Answers, with_stop, text_of, Runs, done, accepted, refused, stopped, unnamed, cut, starved, unwritten}

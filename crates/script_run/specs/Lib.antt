@@ -3,8 +3,10 @@ pub mod Refusals
 pub mod Shown
 pub mod RowLines
 pub mod ShownRows
+pub mod Selected
 pub mod Outcome
 pub mod Running
 pub mod Ran
 pub mod Reaching
 pub mod StepsRows
+pub mod StepsSelected

@@ -5,7 +5,7 @@ use Rattle.dm_store.specs.Causes.{Rose}
 use Rattle.script_run.specs.declared.status.Status.{Status}
 use Rattle.script_run.specs.declared.status.Status.TheVariants as status
 use Rattle.script_run.specs.declared.outcome.Outcome.{Outcome}
-use Rattle.sql_tree.specs.declared.tree.Stmt.{Stmt}
+use Rattle.sql_statements.specs.declared.Stmt.{Stmt}
 use Rattle.script_run.specs.declared.outcome.Due.TheVariants as due
 use Rattle.script_run.specs.Outcome.{IsDue}
 use Rattle.table_write.specs.Outside.{Outside}

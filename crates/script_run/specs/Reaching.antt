@@ -9,7 +9,7 @@ use Rattle.script_run.specs.declared.halt.Halt.TheVariants as halt
 use Rattle.script_run.specs.declared.outcome.Outcome.{Outcome}
 use Rattle.script_run.specs.declared.outcome.Due.{Due}
 use Rattle.script_run.specs.declared.outcome.Due.TheVariants as due
-use Rattle.sql_tree.specs.declared.tree.Stmt.{Stmt}
+use Rattle.sql_statements.specs.declared.Stmt.{Stmt}
 use Rattle.script_run.specs.declared.status.Status.{Status}
 use Rattle.script_run.specs.declared.status.Status.TheVariants as status
 use Rattle.script_run.specs.Outcome.{IsDue}

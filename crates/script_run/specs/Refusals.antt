@@ -50,8 +50,22 @@ table_cause (table.NoSuchVersion version) = codes "O21" ++ codes " " ++ decimal 
 table_cause (table.UnsupportedRule name) = codes "O22" ++ codes " " ++ field name
 
 abbrev pub statement_cause : StatementRefusal → List ℕ
+statement_cause statement.TableExists = codes "S1"
+statement_cause (statement.BadDefinition at) = codes "S2" ++ codes " " ++ decimal at
+statement_cause (statement.DoesNotType rule at) =
+    codes "S3" ++ codes " " ++ decimal rule ++ codes " " ++ decimal at
 statement_cause statement.AppendOnly = codes "S4"
 statement_cause statement.RowTrackingOff = codes "S5"
+statement_cause (statement.IdentityWrite column) = codes "S6" ++ codes " " ++ field column
+statement_cause (statement.EvalError kind) = codes "S7" ++ codes " " ++ decimal kind
+statement_cause statement.SecondMatch = codes "S8"
+statement_cause (statement.IdentityOverflow column) = codes "S9" ++ codes " " ++ field column
+statement_cause (statement.GeneratedMismatch column) = codes "S10" ++ codes " " ++ field column
+statement_cause (statement.NotNull column) = codes "S11" ++ codes " " ++ field column
+statement_cause (statement.CheckFailed name) = codes "S12" ++ codes " " ++ field name
+statement_cause statement.RowIdsExhausted = codes "S13"
+statement_cause (statement.FeedOff version) = codes "S14" ++ codes " " ++ decimal version
+statement_cause (statement.FeedSchemaChanged version) = codes "S15" ++ codes " " ++ decimal version
 
 abbrev pub put_cause : PutRefusal → List ℕ
 put_cause (clash.NameTaken path) = codes "S16" ++ codes " " ++ field path

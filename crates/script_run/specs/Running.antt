@@ -4,14 +4,15 @@ use Rattle.dm_types.specs.declared.refusal.Refused.{Refused}
 use Rattle.dm_types.specs.declared.refusal.Stop.{Stop}
 use Rattle.dm_types.specs.declared.refusal.Stop.TheVariants as stop
 use Rattle.table_load.specs.Tells.{Tells}
-use Rattle.sql_tree.specs.declared.tree.Stmt.{Stmt}
-use Rattle.sql_tree.specs.declared.tree.Stmt.TheVariants as stmt
+use Rattle.sql_statements.specs.declared.Stmt.{Stmt}
+use Rattle.sql_statements.specs.declared.Stmt.TheVariants as stmt
 use Rattle.script_run.specs.declared.status.Status.{Status}
 use Rattle.script_run.specs.declared.status.Status.TheVariants as status
 use Rattle.table_write.specs.Delete.{delete_from}
 use Rattle.script_run.specs.Outcome.{refused_line}
 use Rattle.table_write.specs.Outside.{Outside}
 use Rattle.script_run.specs.Refusals.{refused_cause}
+use Rattle.script_run.specs.Selected.{TellsAnswer, select}
 use Rattle.script_run.specs.Shown.{show_files}
 use Rattle.script_run.specs.ShownRows.{show_rows}
 use Rattle.table_write.specs.Writing.{CarriesOut}
@@ -22,6 +23,8 @@ abbrev pub Answers : Stmt → Outside → Result (List ℕ) Stop → Outside →
 Answers (stmt.ShowFiles table) old answer new = Tells old.files (show_files table.text) answer × (new ≡ old)
 Answers (stmt.ShowRows table version) old answer new =
     Tells old.files (show_rows table.text version) answer × (new ≡ old)
+Answers (stmt.Select items table version condition) old answer new =
+    TellsAnswer old.files (select table.text version items condition) answer × (new ≡ old)
 Answers (stmt.Delete table) old answer new = CarriesOut (delete_from table.text) old answer new
 
 -- a statement's text, or why it is refused

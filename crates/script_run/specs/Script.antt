@@ -3,7 +3,7 @@ use Rattle.std.specs.Prelude.{ℕ, List, [], length}
 use Rattle.sql_grammar.specs.Statements as grammar
 use Rattle.sql_lex.specs.Tokens.{tokens}
 use Rattle.sql_reader.specs.Answers.{IsPlace}
-use Rattle.sql_tree.specs.declared.tree.Stmt.{Stmt}
+use Rattle.sql_statements.specs.declared.Stmt.{Stmt}
 
 -- the bytes are a script of the grammar with these statements
 pub record IsScript (script : List ℕ) (statements : List Stmt) : Type 0 where

@@ -68,8 +68,23 @@ fn statement_cause(alloc: Global, refusal: &StatementRefusal) -> Result<Bytes, A
     ensures { IfOk result (λ cause. cause ≡ spec.statement_cause refusal.now) }
 {
     match refusal {
+        StatementRefusal::TableExists => Bytes::from_slice(alloc, b"S1"),
+        StatementRefusal::BadDefinition { at } => with_number(alloc, "S2", *at),
+        StatementRefusal::DoesNotType { rule, at } => {
+            with_numbers(alloc, "S3", u64::from(*rule), *at)
+        }
         StatementRefusal::AppendOnly => Bytes::from_slice(alloc, b"S4"),
         StatementRefusal::RowTrackingOff => Bytes::from_slice(alloc, b"S5"),
+        StatementRefusal::IdentityWrite { column } => with_text(alloc, "S6", column),
+        StatementRefusal::EvalError { kind } => with_number(alloc, "S7", u64::from(*kind)),
+        StatementRefusal::SecondMatch => Bytes::from_slice(alloc, b"S8"),
+        StatementRefusal::IdentityOverflow { column } => with_text(alloc, "S9", column),
+        StatementRefusal::GeneratedMismatch { column } => with_text(alloc, "S10", column),
+        StatementRefusal::NotNull { column } => with_text(alloc, "S11", column),
+        StatementRefusal::CheckFailed { name } => with_text(alloc, "S12", name),
+        StatementRefusal::RowIdsExhausted => Bytes::from_slice(alloc, b"S13"),
+        StatementRefusal::FeedOff { version } => with_number(alloc, "S14", *version),
+        StatementRefusal::FeedSchemaChanged { version } => with_number(alloc, "S15", *version),
     }
 }
 

@@ -8,10 +8,12 @@ mod outcome;
 mod row_lines;
 mod runs;
 mod script;
+mod selected;
 mod shown;
 mod shown_rows;
 mod statements;
 mod status;
+mod value_lines;
 
 pub use outcome::{Due, Outcome};
 pub use runs::run;

@@ -68,8 +68,8 @@ fn lines_at(
     Ok(lines)
 }
 
-// Adds lines, each with a line feed behind it.
-fn print_all(lines: &[Vec<u8>], out: &mut Bytes) -> Result<(), AllocError>
+/// Adds lines, each with a line feed behind it.
+pub(crate) fn print_all(lines: &[Vec<u8>], out: &mut Bytes) -> Result<(), AllocError>
     ensures { OnOk result (out.new ≡ out.old ++ spec.lines_text (map (λ line. line.items) lines.now)) }
 {
     for line in lines {
@@ -132,8 +132,12 @@ fn print_number(number: Option<i64>, out: &mut Bytes) -> Result<(), AllocError>
     print_field(&value, &DataType::Long, out)
 }
 
-// Adds the values of a row, each behind a tab.
-fn print_cells(columns: &[AnyColumn], place: usize, out: &mut Bytes) -> Result<(), AllocError>
+/// Adds the values of a row, each behind a tab.
+pub(crate) fn print_cells(
+    columns: &[AnyColumn],
+    place: usize,
+    out: &mut Bytes,
+) -> Result<(), AllocError>
     requires { All (HasCell place) columns.now }
     ensures { OnOk result (out.new ≡ out.old ++ cells_text columns.now place) }
 {
@@ -149,6 +153,18 @@ fn print_cell(column: &AnyColumn, place: usize, out: &mut Bytes) -> Result<(), A
     ensures { OnOk result (out.new ≡ out.old ++ 9 ∷ value_field (value_at place column.now)) }
 {
     out.push(b'\t')?;
+    print_value(column, place, out)
+}
+
+/// Adds the value of a column in a row.
+pub(crate) fn print_value(
+    column: &AnyColumn,
+    place: usize,
+    out: &mut Bytes,
+) -> Result<(), AllocError>
+    requires { HasCell place column.now }
+    ensures { OnOk result (out.new ≡ out.old ++ value_field (value_at place column.now)) }
+{
     let value = column.get(place)?;
     print_field(&value, column.kind(), out)
 }

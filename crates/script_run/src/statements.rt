@@ -6,6 +6,7 @@ ghost use Rattle.script_run.specs.Reaching.{RunsOne, RunsAll, BlamesOne};
 ghost use Rattle.script_run.specs.Running.{Answers};
 
 use crate::outcome::refusal_line;
+use crate::selected::select;
 use crate::shown::show_files;
 use crate::shown_rows::show_rows;
 use crate::status::Status;
@@ -90,6 +91,19 @@ fn run_statement<S: Store, C: Clock, N: NameSource>(
     match statement {
         Stmt::ShowFiles { table } => show_files(alloc, store, &table.text),
         Stmt::ShowRows { table, version } => show_rows(alloc, store, &table.text, *version),
+        Stmt::Select {
+            items,
+            table,
+            version,
+            condition,
+        } => select(
+            alloc,
+            store,
+            &table.text,
+            *version,
+            items,
+            condition.as_ref(),
+        ),
         Stmt::Delete { table } => delete_from(alloc, store, clock, names, &table.text),
     }
 }

@@ -7,34 +7,34 @@ use script_run::run;
 use std::alloc::Global;
 use std::test::Fail;
 
-const ZERO: &str = "t/_delta_log/00000000000000000000.json";
+pub(crate) const ZERO: &str = "t/_delta_log/00000000000000000000.json";
 
-const ONE_MORE: &str = "t/_delta_log/00000000000000000001.json";
+pub(crate) const ONE_MORE: &str = "t/_delta_log/00000000000000000001.json";
 
 const THREE: &str = "t/_delta_log/00000000000000000003.json";
 
 // The lines of a commit file.
-type Log = (&'static str, &'static [&'static str]);
+pub(crate) type Log = (&'static str, &'static [&'static str]);
 
 // A data file.
-type Data = (&'static str, &'static [u8]);
+pub(crate) type Data = (&'static str, &'static [u8]);
 
 // A store, a script, and what the run must write; its status is 0, or 1 where the last line is a
 // refusal.
 #[derive(Clone, Copy)]
-struct Case {
-    logs: &'static [Log],
-    files: &'static [Data],
-    script: &'static str,
-    text: &'static str,
+pub(crate) struct Case {
+    pub logs: &'static [Log],
+    pub files: &'static [Data],
+    pub script: &'static str,
+    pub text: &'static str,
 }
 
-const A: &str = "t/a.parquet";
+pub(crate) const A: &str = "t/a.parquet";
 
-const B: &str = "t/b.parquet";
+pub(crate) const B: &str = "t/b.parquet";
 
 // Two files, in log order.
-const BOTH: Case = Case {
+pub(crate) const BOTH: Case = Case {
     logs: &[(ZERO, &[PLAIN, ADD_B, ADD_A])],
     files: &[(A, ONE), (B, TWO)],
     script: "SHOW ROWS t;",
@@ -50,7 +50,7 @@ const BAD: Case = Case {
 };
 
 // Rows that are tracked: the ids of the first file are 4 and 11, that of the second is 0.
-const IDS: Case = Case {
+pub(crate) const IDS: Case = Case {
     logs: &[(
         ZERO,
         &[
@@ -471,11 +471,14 @@ fn store_of(alloc: Global, case: &Case) -> Result<MemoryStore, Fail> {
     Ok(store)
 }
 
-// The status of a run, and what it wrote.
-fn ran(alloc: Global, case: &Case) -> Result<(u8, Bytes), Fail> {
-    let script = Bytes::from_slice(alloc, case.script.as_bytes())?;
+// The status of a run over a store, and what it wrote.
+pub(crate) fn run_over<S: Store>(
+    alloc: Global,
+    store: &mut S,
+    script: &str,
+) -> Result<(u8, Bytes), Fail> {
+    let script = Bytes::from_slice(alloc, script.as_bytes())?;
     let mut source = MemorySource::new(script, CountList::new(alloc))?;
-    let mut store = store_of(alloc, case)?;
     let mut sink = MemorySink::new(alloc, CountList::new(alloc))?;
     let mut clock = MemoryClock::new(WholeList::from_slice(alloc, &[5])?)?;
     let mut names = MemoryNames::new(NameList::new(alloc), CountList::new(alloc))?;
@@ -483,7 +486,7 @@ fn ran(alloc: Global, case: &Case) -> Result<(u8, Bytes), Fail> {
         alloc,
         &[],
         &mut source,
-        &mut store,
+        store,
         &mut sink,
         &mut clock,
         &mut names,
@@ -492,9 +495,10 @@ fn ran(alloc: Global, case: &Case) -> Result<(u8, Bytes), Fail> {
 }
 
 // Whether the run of each case ends and writes as it must.
-fn run_so(alloc: Global, cases: &[Case], status: u8) -> Result<bool, Fail> {
+pub(crate) fn run_so(alloc: Global, cases: &[Case], status: u8) -> Result<bool, Fail> {
     for case in cases {
-        let (found, written) = ran(alloc, case)?;
+        let mut store = store_of(alloc, case)?;
+        let (found, written) = run_over(alloc, &mut store, case.script)?;
         if found != status || written.as_slice() != case.text.as_bytes() {
             return Ok(false);
         }
