@@ -1,8 +1,9 @@
 // The file of an action, as `load_part` reads it.
 use crate::files::{CHANGES, ONE_ROW, TWO_ROWS};
+use column_vectors::AnyColumn;
 use data_file::{PartRows, Room};
 use dm_store::{MemoryStore, Store};
-use dm_types::{CountList, PartitionValues, Stop, TableRefusal, Text, Value};
+use dm_types::{CountList, PartitionValues, Refused, Stop, TableRefusal, Text, Value};
 use std::alloc::{AllocError, Global};
 use std::test::Fail;
 use table_load::{Head, PartView, load_head, load_part};
@@ -53,33 +54,52 @@ fn part_of(
 // How many rows a file has, and how many cells it leaves.
 type Size = (usize, u64);
 
-fn size_of(part: Result<PartRows, Stop>) -> Option<Size> {
-    let part = part.ok()?;
-    Some((part.batch.rows, part.left.cells))
+fn size_of(part: &Result<PartRows, Stop>) -> Option<Size> {
+    match part {
+        Ok(part) => Some((part.batch.rows, part.left.cells)),
+        Err(_) => None,
+    }
 }
 
-fn refusal_of(part: Result<PartRows, Stop>) -> Option<Stop> {
-    part.err()
+// The code of a refusal.
+fn code_of(part: &Result<PartRows, Stop>) -> &'static str {
+    let Err(Stop::Refused(Refused::Table(refusal))) = part else {
+        return "";
+    };
+    match refusal {
+        TableRefusal::DeletionVector { .. } => "O10",
+        TableRefusal::BadPath { .. } => "O11",
+        TableRefusal::MissingFile { .. } => "O12",
+        _ => "",
+    }
 }
 
-// The kinds of changes of a file, in the order of its rows.
-fn kinds_are(part: Result<PartRows, Stop>, wanted: &[&str]) -> Result<bool, AllocError> {
-    let Ok(part) = part else {
-        return Ok(false);
-    };
-    let Some(kinds) = part.kinds else {
-        return Ok(false);
-    };
-    for (place, kind) in wanted.iter().enumerate() {
-        if place >= kinds.len() {
+fn is_text(value: &Value, wanted: &str) -> bool {
+    match value {
+        Value::Text(text) => text.as_str() == wanted,
+        _ => false,
+    }
+}
+
+// Whether a column has these texts.
+fn has_texts(column: &AnyColumn, wanted: &[&str]) -> Result<bool, AllocError> {
+    for row in 0..column.len() {
+        if row >= wanted.len() || !is_text(&column.get(row)?, wanted[row]) {
             return Ok(false);
         }
-        match kinds.get(place)? {
-            Value::Text(text) if text.as_str() == *kind => {}
-            _ => return Ok(false),
-        }
     }
-    Ok(kinds.len() == wanted.len())
+    Ok(column.len() == wanted.len())
+}
+
+// Whether the changes of a file are of these kinds, in the order of its rows.
+fn kinds_are(part: &Result<PartRows, Stop>, wanted: &[&str]) -> Result<bool, AllocError> {
+    match part {
+        Ok(part) => match &part.kinds {
+            Some(kinds) => has_texts(kinds, wanted),
+            None => Ok(false),
+        },
+        Err(_) => Ok(false),
+    }
 }
 
 // A path as it is logged, whether the action has a deletion vector, and whether it is a change file's.
@@ -101,7 +121,7 @@ fn files_are_read_by_their_actions(rt: HostRuntime) -> Result<(), Fail> {
     for ((path, vector, change), wanted) in SIZES {
         let path = Text::from_str(alloc, path)?;
         let part = part_of(alloc, &mut store, &path, vector, change);
-        assert!(rt; size_of(part) == wanted);
+        assert!(rt; size_of(&part) == wanted);
     }
     Ok(())
 }
@@ -112,26 +132,25 @@ fn changes_have_their_kinds(rt: HostRuntime) -> Result<(), Fail> {
     let mut store = store_of(alloc)?;
     let path = Text::from_str(alloc, "_change_data/c")?;
     let part = part_of(alloc, &mut store, &path, false, true);
-    assert!(rt; kinds_are(part, &["delete", "insert"])?);
+    assert!(rt; kinds_are(&part, &["delete", "insert"])?);
     Ok(())
 }
+
+// A path as it is logged, whether the action has a deletion vector, and the code.
+const REFUSED: [(&str, bool, &str); 3] = [
+    ("../absent", true, "O10"),
+    ("../absent", false, "O11"),
+    ("absent", false, "O12"),
+];
 
 #[test]
 fn the_first_check_of_a_file_decides(rt: HostRuntime) -> Result<(), Fail> {
     let alloc = rt.alloc();
     let mut store = store_of(alloc)?;
-    let path = Text::from_str(alloc, "../absent")?;
-    let part = part_of(alloc, &mut store, &path, true, false);
-    let vector = TableRefusal::DeletionVector {
-        path: path.clone()?,
-    };
-    assert!(rt; refusal_of(part) == Some(Stop::from(vector)));
-    let part = part_of(alloc, &mut store, &path, false, false);
-    let outside = TableRefusal::BadPath { path };
-    assert!(rt; refusal_of(part) == Some(Stop::from(outside)));
-    let path = Text::from_str(alloc, "absent")?;
-    let part = part_of(alloc, &mut store, &path, false, false);
-    let missing = TableRefusal::MissingFile { path };
-    assert!(rt; refusal_of(part) == Some(Stop::from(missing)));
+    for (path, vector, code) in REFUSED {
+        let path = Text::from_str(alloc, path)?;
+        let part = part_of(alloc, &mut store, &path, vector, false);
+        assert!(rt; code_of(&part) == code);
+    }
     Ok(())
 }

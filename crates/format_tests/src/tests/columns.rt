@@ -12,17 +12,18 @@ use std::test::Fail;
 fn column_of(
     alloc: Global,
     kind: DataType,
-    first: Value,
-    last: Value,
+    first: &Value,
+    last: &Value,
 ) -> Result<AnyColumn, AllocError>
-    requires first { IsNullOrOf kind first }
-    requires last { IsNullOrOf kind last }
-    ensures { IfOk result (λ column. column ≡ record { kind = kind; values = first ∷ Null ∷ last ∷ [] }) }
+    requires first { IsNullOrOf kind first.now }
+    requires last { IsNullOrOf kind last.now }
+    ensures { IfOk result (λ column. column
+        ≡ record { kind = kind; values = first.now ∷ Null ∷ last.now ∷ [] }) }
 {
     let mut values = Row::new(alloc);
-    values.push(first)?;
+    values.push(first.clone()?)?;
     values.push(Value::Null)?;
-    values.push(last)?;
+    values.push(last.clone()?)?;
     AnyColumn::from_values(alloc, &kind, &values)
 }
 
@@ -55,30 +56,36 @@ fn holds(column: &AnyColumn, values: &Row) -> Result<bool, AllocError> {
 fn with_turned(
     alloc: Global,
     kind: DataType,
-    first: Value,
-    last: Value,
+    first: &Value,
+    last: &Value,
 ) -> Result<AnyColumn, AllocError>
-    requires first { IsNullOrOf kind first }
-    requires last { IsNullOrOf kind last }
+    requires first { IsNullOrOf kind first.now }
+    requires last { IsNullOrOf kind last.now }
 {
     let column = column_of(alloc, kind, first, last)?;
     let turned = column.gather(alloc, &places(alloc, 2, 1)?)?;
     column.concat(&turned)
 }
 
+// The values of that column.
+fn turned_values(alloc: Global, first: &Value, last: &Value) -> Result<Row, AllocError> {
+    let mut values = Row::new(alloc);
+    values.push(first.clone()?)?;
+    values.push(Value::Null)?;
+    values.push(last.clone()?)?;
+    values.push(last.clone()?)?;
+    values.push(Value::Null)?;
+    Ok(values)
+}
+
 // Whether a column of two values and null is kept, with two of its rows behind it.
-fn keeps(alloc: Global, kind: DataType, first: Value, last: Value) -> Result<bool, AllocError>
-    requires first { IsNullOrOf kind first }
-    requires last { IsNullOrOf kind last }
+fn keeps(alloc: Global, kind: DataType, first: &Value, last: &Value) -> Result<bool, AllocError>
+    requires first { IsNullOrOf kind first.now }
+    requires last { IsNullOrOf kind last.now }
 {
-    let whole = with_turned(alloc, kind, first.clone()?, last.clone()?)?;
-    let mut expected = Row::new(alloc);
-    expected.push(first)?;
-    expected.push(Value::Null)?;
-    expected.push(last.clone()?)?;
-    expected.push(last)?;
-    expected.push(Value::Null)?;
-    holds(&whole, &expected)
+    let whole = with_turned(alloc, kind, first, last)?;
+    let values = turned_values(alloc, first, last)?;
+    holds(&whole, &values)
 }
 
 #[test]
@@ -88,18 +95,19 @@ fn columns_keep_values_of_their_types(rt: HostRuntime) -> Result<(), Fail> {
         scale: 2,
     };
     let word = Value::Text(Text::from_str(rt.alloc(), "a")?);
-    assert!(rt; keeps(rt.alloc(), DataType::Void, Value::Null, Value::Null)?);
+    let null = Value::Null;
+    assert!(rt; keeps(rt.alloc(), DataType::Void, &null, &null)?);
     assert!(rt;
         keeps(
             rt.alloc(),
             DataType::Byte,
-            Value::Int(-128),
-            Value::Int(127)
+            &Value::Int(-128),
+            &Value::Int(127)
         )?
     );
-    assert!(rt; keeps(rt.alloc(), DataType::Date, Value::Day(-1), Value::Null)?);
-    assert!(rt; keeps(rt.alloc(), price, decimal(-9999, 2), decimal(150, 2))?);
-    assert!(rt; keeps(rt.alloc(), DataType::Str, Value::Null, word)?);
+    assert!(rt; keeps(rt.alloc(), DataType::Date, &Value::Day(-1), &null)?);
+    assert!(rt; keeps(rt.alloc(), price, &decimal(-9999, 2), &decimal(150, 2))?);
+    assert!(rt; keeps(rt.alloc(), DataType::Str, &null, &word)?);
     Ok(())
 }
 
