@@ -54,22 +54,31 @@ fn part_of(
 // How many rows a file has, and how many cells it leaves.
 type Size = (usize, u64);
 
-fn size_of(part: &Result<PartRows, Stop>) -> Option<Size> {
+fn size_of(part: Result<PartRows, Stop>) -> Option<Size> {
+    let part = part.ok()?;
+    Some((part.batch.rows, part.left.cells))
+}
+
+fn kinds_of(part: Result<PartRows, Stop>) -> Option<AnyColumn> {
     match part {
-        Ok(part) => Some((part.batch.rows, part.left.cells)),
+        Ok(PartRows { kinds, .. }) => kinds,
         Err(_) => None,
     }
 }
 
+fn code_of(part: Result<PartRows, Stop>) -> &'static str {
+    match part.err() {
+        Some(stop) => code(&stop),
+        None => "",
+    }
+}
+
 // The code of a refusal.
-fn code_of(part: &Result<PartRows, Stop>) -> &'static str {
-    let Err(Stop::Refused(Refused::Table(refusal))) = part else {
-        return "";
-    };
-    match refusal {
-        TableRefusal::DeletionVector { .. } => "O10",
-        TableRefusal::BadPath { .. } => "O11",
-        TableRefusal::MissingFile { .. } => "O12",
+fn code(stop: &Stop) -> &'static str {
+    match stop {
+        Stop::Refused(Refused::Table(TableRefusal::DeletionVector { .. })) => "O10",
+        Stop::Refused(Refused::Table(TableRefusal::BadPath { .. })) => "O11",
+        Stop::Refused(Refused::Table(TableRefusal::MissingFile { .. })) => "O12",
         _ => "",
     }
 }
@@ -91,14 +100,11 @@ fn has_texts(column: &AnyColumn, wanted: &[&str]) -> Result<bool, AllocError> {
     Ok(column.len() == wanted.len())
 }
 
-// Whether the changes of a file are of these kinds, in the order of its rows.
-fn kinds_are(part: &Result<PartRows, Stop>, wanted: &[&str]) -> Result<bool, AllocError> {
-    match part {
-        Ok(part) => match &part.kinds {
-            Some(kinds) => has_texts(kinds, wanted),
-            None => Ok(false),
-        },
-        Err(_) => Ok(false),
+// Whether there are kinds of changes, and these.
+fn are_kinds(kinds: &Option<AnyColumn>, wanted: &[&str]) -> Result<bool, AllocError> {
+    match kinds {
+        Some(kinds) => has_texts(kinds, wanted),
+        None => Ok(false),
     }
 }
 
@@ -121,7 +127,7 @@ fn files_are_read_by_their_actions(rt: HostRuntime) -> Result<(), Fail> {
     for ((path, vector, change), wanted) in SIZES {
         let path = Text::from_str(alloc, path)?;
         let part = part_of(alloc, &mut store, &path, vector, change);
-        assert!(rt; size_of(&part) == wanted);
+        assert!(rt; size_of(part) == wanted);
     }
     Ok(())
 }
@@ -132,7 +138,8 @@ fn changes_have_their_kinds(rt: HostRuntime) -> Result<(), Fail> {
     let mut store = store_of(alloc)?;
     let path = Text::from_str(alloc, "_change_data/c")?;
     let part = part_of(alloc, &mut store, &path, false, true);
-    assert!(rt; kinds_are(&part, &["delete", "insert"])?);
+    let kinds = kinds_of(part);
+    assert!(rt; are_kinds(&kinds, &["delete", "insert"])?);
     Ok(())
 }
 
@@ -150,7 +157,7 @@ fn the_first_check_of_a_file_decides(rt: HostRuntime) -> Result<(), Fail> {
     for (path, vector, code) in REFUSED {
         let path = Text::from_str(alloc, path)?;
         let part = part_of(alloc, &mut store, &path, vector, false);
-        assert!(rt; code_of(&part) == code);
+        assert!(rt; code_of(part) == code);
     }
     Ok(())
 }
