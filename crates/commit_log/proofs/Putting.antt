@@ -7,7 +7,8 @@ use Rattle.std.proofs.lemmas.List.{append-nil, take_more}
 use Rattle.std.proofs.lemmas.Map.Keys.{IsDistinct-tail, apart_from_distinct}
 use Rattle.std.proofs.lemmas.Slice.Eq.{bytes_eq-Decides}
 use Rattle.dm_store.specs.Files.{Files, lookup, WhereTold, appended, IsAbsent, IsPresent}
-use Rattle.commit_log.specs.Block.{whole_path, placed, whole_paths, files_of, block_of, commit_file, AreApart, IsFresh}
+use Rattle.table_log.specs.Log.{below}
+use Rattle.commit_log.specs.Block.{placed, whole_paths, files_of, block_of, commit_file, AreApart, IsFresh}
 use Rattle.commit_log.specs.Commits.{AllPut, SomePut, IsFirstTaken, Commits}
 use Rattle.commit_log.specs.StepsPutting.{PutsFile, PutsFiles, PutsCommit, with_paths}
 use Rattle.commit_log.specs.declared.new_files.NewFiles.{NewFiles}
@@ -22,9 +23,9 @@ pub files_placed : (fresh : NewFiles) → with_paths (whole_paths fresh) fresh.f
 unfolding files_of
 files_placed fresh = by fresh.files
   where
-    by : (files : Files) → with_paths (map (λ f. whole_path fresh.table f.0) files) files ≡ map (placed fresh.table) files
+    by : (files : Files) → with_paths (map (λ f. below fresh.table f.0) files) files ≡ map (placed fresh.table) files
     by [] = refl
-    by (f ∷ files) = ap (λ (rest : Files). (whole_path fresh.table f.0, f.1) ∷ rest) (by files)
+    by (f ∷ files) = ap (λ (rest : Files). (below fresh.table f.0, f.1) ∷ rest) (by files)
 
 pub placed-length : (paths : List (List ℕ)) (files : Files) → length paths ≡ length files → length (with_paths paths files) ≡ length files
 placed-length [] [] same = refl
@@ -182,7 +183,7 @@ file_failed told now fresh e is puts =
 pub file_memory : (told now : Option Files) (fresh : NewFiles) (e : FileFault) → e ≡ file.Memory → PutsFiles (with_paths (whole_paths fresh) fresh.files) told now (Err e) → SomePut (files_of fresh) told now
 file_memory told now fresh e is puts = subst (λ (x : Files). SomePut x told now) (files_placed fresh) (subst (λ (x : FileFault). PutsFiles (with_paths (whole_paths fresh) fresh.files) told now (Err x)) is puts)
 
-get_or-keys : (table : List ℕ) (files : Files) (k : ℕ) → k < length files → get_or (map (λ f. whole_path table f.0) files) k [] ≡ (get_or (map (placed table) files) k ([], [])).0
+get_or-keys : (table : List ℕ) (files : Files) (k : ℕ) → k < length files → get_or (map (λ f. below table f.0) files) k [] ≡ (get_or (map (placed table) files) k ([], [])).0
 get_or-keys table [] k within = absurd (omega (arith, within))
 get_or-keys table (f ∷ files) zero within = refl
 get_or-keys table (f ∷ files) (suc k) within = get_or-keys table files k (omega (arith, within))
@@ -191,7 +192,7 @@ pub files-length : (fresh : NewFiles) → length (files_of fresh) ≡ length (wh
 unfolding files_of
 files-length fresh = by fresh.files
   where
-    by : (files : Files) → length (map (placed fresh.table) files) ≡ length (map (λ f. whole_path fresh.table f.0) files)
+    by : (files : Files) → length (map (placed fresh.table) files) ≡ length (map (λ f. below fresh.table f.0) files)
     by [] = refl
     by (f ∷ files) = ap suc (by files)
 

@@ -4,18 +4,14 @@ use Rattle.std.specs.List.{AllByRecursion, IsDistinct}
 use Rattle.std.specs.Str.{bytes_eq}
 use Rattle.dm_store.specs.Files.{Files, lookup}
 use Rattle.delta_actions.specs.Written.{commit_text}
-use Rattle.table_log.specs.Log.{commit_path}
+use Rattle.table_log.specs.Log.{below, commit_path}
 use Rattle.commit_log.specs.declared.new_files.NewFiles.{NewFiles}
 
--- a path below the table's folder
-abbrev pub whole_path : List ℕ → List ℕ → List ℕ
-whole_path table path = table ++ 47 ∷ path
-
 abbrev pub whole_paths : NewFiles → List (List ℕ)
-whole_paths fresh = map (λ file. whole_path fresh.table file.0) fresh.files
+whole_paths fresh = map (λ file. below fresh.table file.0) fresh.files
 
 abbrev pub placed : List ℕ → List ℕ × List ℕ → List ℕ × List ℕ
-placed table file = (whole_path table file.0, file.1)
+placed table file = (below table file.0, file.1)
 
 -- the data files and change files, by their whole paths
 unfoldable pub files_of : NewFiles → Files

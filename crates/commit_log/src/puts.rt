@@ -3,7 +3,7 @@ ghost use Rattle.std.specs.Prelude.{◌≡◌, ◌<◌, [], length, get_or, IfOk
 ghost use Rattle.std.specs.List.{IsDistinct};
 ghost use Rattle.std.specs.Str.{bytes_eq};
 ghost use Rattle.dm_store.specs.Causes.{Counts};
-ghost use Rattle.commit_log.specs.Block.{AreApart, whole_path, whole_paths};
+ghost use Rattle.commit_log.specs.Block.{AreApart, whole_paths};
 ghost use Rattle.commit_log.specs.Commits.{Commits, IsBuilt, CommitCause, CommitTaken};
 ghost use Rattle.commit_log.specs.StepsPutting.{PutsFile, PutsFiles, PutCause, PutTaken, PutsCommit, with_paths};
 ghost use Rattle.commit_log.specs.declared.fault.CommitFault.TheVariants.{NameTaken};
@@ -14,7 +14,7 @@ use delta_actions::write_commit;
 use dm_store::{PutFault, Store};
 use dm_types::{Bytes, Text, TextList};
 use std::alloc::{AllocError, Global};
-use table_log::commit_path;
+use table_log::{commit_path, path_below};
 
 // Why a file before the commit file wasn't put.
 #[derive(Drop)]
@@ -55,18 +55,9 @@ fn paths_of(alloc: Global, fresh: &NewFiles) -> Result<TextList, AllocError>
 {
     let mut paths = TextList::new(alloc);
     for file in fresh.files.as_slice() {
-        paths.push(path_below(alloc, &fresh.table, &file.0)?)?;
+        paths.push(path_below(&fresh.table, &file.0)?)?;
     }
     Ok(paths)
-}
-
-fn path_below(alloc: Global, table: &Text, path: &Text) -> Result<Text, AllocError>
-    ensures { IfOk result (λ whole. whole ≡ whole_path table.now path.now) }
-{
-    let mut whole = Text::from_str(alloc, table.as_str())?;
-    whole.push_str("/")?;
-    whole.push_str(path.as_str())?;
-    Ok(whole)
 }
 
 // Puts the files in their order under these paths.

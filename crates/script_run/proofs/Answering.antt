@@ -170,34 +170,34 @@ module _ (table : List ℕ) (items : SelectItems) (x : Option Expr) (loaded : Lo
 
 -- ---- the files
 
-pub answer_told : (told : Option Files) (table : List ℕ) (asked : Option ℕ) (items : SelectItems) (x : Option Expr) (it : Opened) (answer : Result (List ℕ) Stop)
-    → WhereTold told (λ files. opened_for purpose.Read table asked files ≡ Ok it) → Decides (selected table items x (state_of it)) answer → TellsAnswer told (λ files. select table asked items x files) answer
+pub answer_told : (told : Option Files) (folder table : List ℕ) (asked : Option ℕ) (items : SelectItems) (x : Option Expr) (it : Opened) (answer : Result (List ℕ) Stop)
+    → WhereTold told (λ files. opened_for purpose.Read folder asked files ≡ Ok it) → Decides (selected table items x (state_of it)) answer → TellsAnswer told (λ files. select folder table asked items x files) answer
 unfolding select held_at opened_for
-answer_told None table asked items x it (Ok text) loaded decided = tt
-answer_told (Some files) table asked items x it (Ok text) loaded decided = rw (opened (opened_at table asked files) it loaded, decided) refl
-answer_told None table asked items x it (Err (stop.Refused (refused.Statement refusal))) loaded decided = tt
-answer_told (Some files) table asked items x it (Err (stop.Refused (refused.Statement refusal))) loaded decided = rw (opened (opened_at table asked files) it loaded, decided) refl
-answer_told told table asked items x it (Err (stop.Refused (refused.Table refusal))) loaded decided = absurd decided
-answer_told told table asked items x it (Err (stop.Refused (refused.Put refusal))) loaded decided = absurd decided
-answer_told told table asked items x it (Err stop.Store) loaded decided = tt
-answer_told told table asked items x it (Err stop.Names) loaded decided = decided
-answer_told told table asked items x it (Err stop.Memory) loaded decided = tt
+answer_told None folder table asked items x it (Ok text) loaded decided = tt
+answer_told (Some files) folder table asked items x it (Ok text) loaded decided = rw (opened (opened_at folder asked files) it loaded, decided) refl
+answer_told None folder table asked items x it (Err (stop.Refused (refused.Statement refusal))) loaded decided = tt
+answer_told (Some files) folder table asked items x it (Err (stop.Refused (refused.Statement refusal))) loaded decided = rw (opened (opened_at folder asked files) it loaded, decided) refl
+answer_told told folder table asked items x it (Err (stop.Refused (refused.Table refusal))) loaded decided = absurd decided
+answer_told told folder table asked items x it (Err (stop.Refused (refused.Put refusal))) loaded decided = absurd decided
+answer_told told folder table asked items x it (Err stop.Store) loaded decided = tt
+answer_told told folder table asked items x it (Err stop.Names) loaded decided = decided
+answer_told told folder table asked items x it (Err stop.Memory) loaded decided = tt
 
-refused_told : {X : Type 0} (view : X → Opened) (told : Option Files) (table : List ℕ) (asked : Option ℕ) (items : SelectItems) (x : Option Expr) (why : Stop)
-    → TellsAs view told (λ files. opened_for purpose.Read table asked files) (Err why) → TellsAnswer told (λ files. select table asked items x files) (Err why)
+refused_told : {X : Type 0} (view : X → Opened) (told : Option Files) (folder table : List ℕ) (asked : Option ℕ) (items : SelectItems) (x : Option Expr) (why : Stop)
+    → TellsAs view told (λ files. opened_for purpose.Read folder asked files) (Err why) → TellsAnswer told (λ files. select folder table asked items x files) (Err why)
 unfolding select held_at opened_for
-refused_told view told table asked items x stop.Store loaded = tt
-refused_told view told table asked items x stop.Names loaded = loaded
-refused_told view told table asked items x stop.Memory loaded = tt
-refused_told view None table asked items x (stop.Refused (refused.Table refusal)) loaded = tt
-refused_told view (Some files) table asked items x (stop.Refused (refused.Table refusal)) loaded = rw (not_opened (opened_at table asked files) refusal loaded) refl
-refused_told view told table asked items x (stop.Refused (refused.Statement refusal)) loaded = absurd loaded
-refused_told view told table asked items x (stop.Refused (refused.Put refusal)) loaded = absurd loaded
+refused_told view told folder table asked items x stop.Store loaded = tt
+refused_told view told folder table asked items x stop.Names loaded = loaded
+refused_told view told folder table asked items x stop.Memory loaded = tt
+refused_told view None folder table asked items x (stop.Refused (refused.Table refusal)) loaded = tt
+refused_told view (Some files) folder table asked items x (stop.Refused (refused.Table refusal)) loaded = rw (not_opened (opened_at folder asked files) refusal loaded) refl
+refused_told view told folder table asked items x (stop.Refused (refused.Statement refusal)) loaded = absurd loaded
+refused_told view told folder table asked items x (stop.Refused (refused.Put refusal)) loaded = absurd loaded
 
-pub not_answered : {X : Type 0} (view : X → Opened) (told : Option Files) (table : List ℕ) (asked : Option ℕ) (items : SelectItems) (x : Option Expr) (why : Stop) (answer : Result (List ℕ) Stop) → answer ≡ Err why
-    → TellsAs view told (λ files. opened_for purpose.Read table asked files) (Err why) → TellsAnswer told (λ files. select table asked items x files) answer
-not_answered view told table asked items x why answer is loaded =
-    subst (λ (r : Result (List ℕ) Stop). TellsAnswer told (λ files. select table asked items x files) r) (sym is) (refused_told view told table asked items x why loaded)
+pub not_answered : {X : Type 0} (view : X → Opened) (told : Option Files) (folder table : List ℕ) (asked : Option ℕ) (items : SelectItems) (x : Option Expr) (why : Stop) (answer : Result (List ℕ) Stop) → answer ≡ Err why
+    → TellsAs view told (λ files. opened_for purpose.Read folder asked files) (Err why) → TellsAnswer told (λ files. select folder table asked items x files) answer
+not_answered view told folder table asked items x why answer is loaded =
+    subst (λ (r : Result (List ℕ) Stop). TellsAnswer told (λ files. select folder table asked items x files) r) (sym is) (refused_told view told folder table asked items x why loaded)
 
 -- the store isn't asked behind the loading
 pub counts_on : {A : Type 0} (known : Result A StatementRefusal) (answer : Result A Stop) (before now : ℕ) → now ≡ before → Decides known answer → Counts StopCause before now answer

@@ -18,6 +18,7 @@ use Rattle.script_run.specs.declared.status.Status.TheVariants as status
 use Rattle.script_run.specs.Outcome.{ending, usage_line, refused_line, IsDueOf, usage, scripted, too_long}
 use Rattle.sql_statements.specs.declared.Stmt.{Stmt}
 use Rattle.script_run.specs.Ran.{Ran, whole, line_cut, line_unwritten, ended, ran, unread, no_memory}
+use Rattle.script_run.specs.Running.{Runs}
 use Rattle.script_run.specs.Reaching.{Reaches, EndsRun, RunsAll, status_of_fault}
 use Rattle.script_run.proofs.Turns.{appends_none, appends_same}
 use Rattle.script_run.specs.declared.runs.TheConstants.{MAX_SCRIPT}
@@ -74,10 +75,10 @@ pub line_ran : {W : Type 0} (words : List W) (left : Option (List ℕ)) (found :
 line_ran words left found old new line end (script, of_source, is) (text, written, ends) =
     record { script = script; text = text; of_source = of_source; written = written; does = ended line found text end is ends }
 
-pub statements_ran : {W : Type 0} (words : List W) (left : Option (List ℕ)) (files files_new : Outside) (old new : Option (List ℕ)) (statements : List Stmt) (end : Status)
-    → Reaches words left (Ok (due.Runs statements)) → RunsAll statements files files_new old new end → Ran words left files files_new old new end
-statements_ran words left files files_new old new statements end (script, of_source, is) (text, written, runs) =
-    record { script = script; text = text; of_source = of_source; written = written; does = ran statements files files_new text end is runs }
+pub statements_ran : {W : Type 0} (words : List W) (left : Option (List ℕ)) (files files_new : Outside) (old new : Option (List ℕ)) (statements : List Stmt) (end : Status) (root : List ℕ) → root ≡ []
+    → Reaches words left (Ok (due.Runs statements)) → RunsAll root statements files files_new old new end → Ran words left files files_new old new end
+statements_ran words left files files_new old new statements end root none (script, of_source, is) (text, written, runs) =
+    record { script = script; text = text; of_source = of_source; written = written; does = ran statements files files_new text end is (subst (λ (r : List ℕ). Runs r 1 statements files files_new text end) none runs) }
 
 pub source_failed : {W : Type 0} (words : List W) (left : Option (List ℕ)) (files : Outside) (old : Option (List ℕ)) → words ≡ [] → Ran words left files files old old status.SourceFailed
 source_failed words left files old none = record { script = known left; text = []; of_source = known_is left; written = appends_same old; does = unread files none }

@@ -36,32 +36,32 @@ appends_same (Some xs) = sym (append-nil xs)
 -- ---- one statement
 
 -- its text isn't written
-pub put_fails : (number : ℕ) (first : Stmt) (files files_new : Outside) (old new : Option (List ℕ)) (answer : Answer) (piece : List ℕ) (fault : SinkFault) (result : Result (Unit {0}) Status)
-    → Answers first files (with_stop answer) files_new → piece ≡ text_of number answer → Writes piece old new (Err fault) → result ≡ Err (status_of_fault fault) → RunsOne number first files files_new old new result
-put_fails number first files files_new old new answer piece sink.Failed result answered is (count, within, written) ends =
+pub put_fails : (root : List ℕ) (number : ℕ) (first : Stmt) (files files_new : Outside) (old new : Option (List ℕ)) (answer : Answer) (piece : List ℕ) (fault : SinkFault) (result : Result (Unit {0}) Status)
+    → Answers root first files (with_stop answer) files_new → piece ≡ text_of number answer → Writes piece old new (Err fault) → result ≡ Err (status_of_fault fault) → RunsOne root number first files files_new old new result
+put_fails root number first files files_new old new answer piece sink.Failed result answered is (count, within, written) ends =
     rw ends (take count piece, written, λ more. rw is (cut number first more files files_new answer count answered))
-put_fails number first files files_new old new answer piece sink.Memory result answered is kept ends =
+put_fails root number first files files_new old new answer piece sink.Memory result answered is kept ends =
     rw ends ([], appends_none old new kept, λ more. unwritten number first more files files_new answer answered)
 
 -- its refusal is written
-pub put_refused : (number : ℕ) (first : Stmt) (files files_new : Outside) (old new : Option (List ℕ)) (refusal : Refused) (piece : List ℕ)
-    → Answers first files (Err (stop.Refused refusal)) files_new → piece ≡ text_of number (Err refusal) → Appends old new piece → RunsOne number first files files_new old new (Err status.Refused)
+pub put_refused : {root : List ℕ} (number : ℕ) (first : Stmt) (files files_new : Outside) (old new : Option (List ℕ)) (refusal : Refused) (piece : List ℕ)
+    → Answers root first files (Err (stop.Refused refusal)) files_new → piece ≡ text_of number (Err refusal) → Appends old new piece → RunsOne root number first files files_new old new (Err status.Refused)
 put_refused number first files files_new old new refusal piece answered is written =
     (piece, written, λ more. rw is (refused number first more files files_new refusal answered))
 
 -- there was no memory for the line of its refusal
-pub line_unmade : (number : ℕ) (first : Stmt) (files files_new : Outside) (old : Option (List ℕ)) (answer : Answer) (result : Result (Unit {0}) Status)
-    → Answers first files (with_stop answer) files_new → result ≡ Err status.NoMemory → RunsOne number first files files_new old old result
-line_unmade number first files files_new old answer result answered ends =
+pub line_unmade : (root : List ℕ) (number : ℕ) (first : Stmt) (files files_new : Outside) (old : Option (List ℕ)) (answer : Answer) (result : Result (Unit {0}) Status)
+    → Answers root first files (with_stop answer) files_new → result ≡ Err status.NoMemory → RunsOne root number first files files_new old old result
+line_unmade root number first files files_new old answer result answered ends =
     rw ends ([], appends_same old, λ more. unwritten number first more files files_new answer answered)
 
-pub store_fails : (number : ℕ) (first : Stmt) (files files_new : Outside) (old : Option (List ℕ)) → Answers first files (Err stop.Store) files_new → RunsOne number first files files_new old old (Err status.StoreFailed)
+pub store_fails : {root : List ℕ} (number : ℕ) (first : Stmt) (files files_new : Outside) (old : Option (List ℕ)) → Answers root first files (Err stop.Store) files_new → RunsOne root number first files files_new old old (Err status.StoreFailed)
 store_fails number first files files_new old left = ([], appends_same old, λ more. stopped number first more files files_new left)
 
-pub names_fail : (number : ℕ) (first : Stmt) (files files_new : Outside) (old : Option (List ℕ)) → Answers first files (Err stop.Names) files_new → RunsOne number first files files_new old old (Err status.NamesFailed)
+pub names_fail : {root : List ℕ} (number : ℕ) (first : Stmt) (files files_new : Outside) (old : Option (List ℕ)) → Answers root first files (Err stop.Names) files_new → RunsOne root number first files files_new old old (Err status.NamesFailed)
 names_fail number first files files_new old left = ([], appends_same old, λ more. unnamed number first more files files_new left)
 
-pub memory_fails : (number : ℕ) (first : Stmt) (files files_new : Outside) (old : Option (List ℕ)) → Answers first files (Err stop.Memory) files_new → RunsOne number first files files_new old old (Err status.NoMemory)
+pub memory_fails : {root : List ℕ} (number : ℕ) (first : Stmt) (files files_new : Outside) (old : Option (List ℕ)) → Answers root first files (Err stop.Memory) files_new → RunsOne root number first files files_new old old (Err status.NoMemory)
 memory_fails number first files files_new old left = ([], appends_same old, λ more. starved number first more files files_new left)
 
 -- ---- all statements
@@ -71,37 +71,37 @@ at_place : (statements : List Stmt) (count : ℕ) (first : Stmt) → count < len
 at_place statements count first within is = drop-cons statements count first within ∙ rw (← is, ← add-one count) refl
 
 -- the first statements were accepted: what a run of the others makes, behind the texts that are written, the whole run makes
-pub record AreAccepted (statements : List Stmt) (count : ℕ) (files now : Outside) (old new : Option (List ℕ)) : Type 0 where
+pub record AreAccepted (root : List ℕ) (statements : List Stmt) (count : ℕ) (files now : Outside) (old new : Option (List ℕ)) : Type 0 where
   pub text : List ℕ
   pub written : Appends old new text
-  pub onward : (files_new : Outside) (rest : List ℕ) (end : Status) → Runs (count + 1) (drop count statements) now files_new rest end → Runs 1 statements files files_new (text ++ rest) end
+  pub onward : (files_new : Outside) (rest : List ℕ) (end : Status) → Runs root (count + 1) (drop count statements) now files_new rest end → Runs root 1 statements files files_new (text ++ rest) end
 
-pub accepted_none : (statements : List Stmt) (files : Outside) (old : Option (List ℕ)) → AreAccepted statements 0 files files old old
+pub accepted_none : {root : List ℕ} (statements : List Stmt) (files : Outside) (old : Option (List ℕ)) → AreAccepted root statements 0 files files old old
 accepted_none statements files old = record { text = []; written = appends_same old; onward = λ files_new rest end runs. runs }
 
-pub accepted_more : (statements : List Stmt) (count : ℕ) (files mid now : Outside) (old between new : Option (List ℕ)) (first : Stmt)
-    → AreAccepted statements count files mid old between → count < length statements → first ≡ get_or statements count first → RunsOne (count + 1) first mid now between new (Ok tt) → AreAccepted statements (count + 1) files now old new
-accepted_more statements count files mid now old between new first so_far within is (text, answered, written) = record {
+pub accepted_more : {root : List ℕ} (statements : List Stmt) (count : ℕ) (files mid now : Outside) (old between new : Option (List ℕ)) (first : Stmt)
+    → AreAccepted root statements count files mid old between → count < length statements → first ≡ get_or statements count first → RunsOne root (count + 1) first mid now between new (Ok tt) → AreAccepted root statements (count + 1) files now old new
+accepted_more {root} statements count files mid now old between new first so_far within is (text, answered, written) = record {
   text = so_far.text ++ text;
   written = appends_more old between new so_far.text text so_far.written written;
   onward = λ files_new rest end runs.
-      let next : Runs (count + 1) (first ∷ drop (count + 1) statements) mid files_new (text ++ rest) end = accepted (count + 1) first (drop (count + 1) statements) mid now files_new text rest end answered runs in
-      subst (λ (all : List ℕ). Runs 1 statements files files_new all end) (sym (append_assoc so_far.text text rest)) (so_far.onward files_new (text ++ rest) end (rw (at_place statements count first within is) next));
+      let next : Runs root (count + 1) (first ∷ drop (count + 1) statements) mid files_new (text ++ rest) end = accepted (count + 1) first (drop (count + 1) statements) mid now files_new text rest end answered runs in
+      subst (λ (all : List ℕ). Runs root 1 statements files files_new all end) (sym (append_assoc so_far.text text rest)) (so_far.onward files_new (text ++ rest) end (rw (at_place statements count first within is) next));
 }
 
-pub accepted_ends : (statements : List Stmt) (count : ℕ) (files mid now : Outside) (old between new : Option (List ℕ)) (first : Stmt) (end : Status)
-    → AreAccepted statements count files mid old between → count < length statements → first ≡ get_or statements count first → RunsOne (count + 1) first mid now between new (Err end) → RunsAll statements files now old new end
+pub accepted_ends : {root : List ℕ} (statements : List Stmt) (count : ℕ) (files mid now : Outside) (old between new : Option (List ℕ)) (first : Stmt) (end : Status)
+    → AreAccepted root statements count files mid old between → count < length statements → first ≡ get_or statements count first → RunsOne root (count + 1) first mid now between new (Err end) → RunsAll root statements files now old new end
 accepted_ends statements count files mid now old between new first end so_far within is (text, written, runs) =
     (so_far.text ++ text, appends_more old between new so_far.text text so_far.written written, so_far.onward now text end (rw (at_place statements count first within is) (runs (drop (count + 1) statements))))
 
-pub accepted_all : (statements : List Stmt) (count : ℕ) (files now : Outside) (old new : Option (List ℕ)) → AreAccepted statements count files now old new → length statements ≤ count → RunsAll statements files now old new status.Done
-accepted_all statements count files now old new so_far past =
-    (so_far.text, so_far.written, subst (λ (all : List ℕ). Runs 1 statements files now all status.Done) (append-nil so_far.text) (so_far.onward now [] status.Done (rw (drop_of_length-le statements past) (done (count + 1) now))))
+pub accepted_all : {root : List ℕ} (statements : List Stmt) (count : ℕ) (files now : Outside) (old new : Option (List ℕ)) → AreAccepted root statements count files now old new → length statements ≤ count → RunsAll root statements files now old new status.Done
+accepted_all {root} statements count files now old new so_far past =
+    (so_far.text, so_far.written, subst (λ (all : List ℕ). Runs root 1 statements files now all status.Done) (append-nil so_far.text) (so_far.onward now [] status.Done (rw (drop_of_length-le statements past) (done (count + 1) now))))
 
 -- ---- statements that were run
 
 -- statements end a run in no way that comes before them
-pub runs_on : {number : ℕ} {statements : List Stmt} {old new : Outside} {text : List ℕ} {how : Status} → Runs number statements old new text how → IsBeforeStatements how → ⊥
+pub runs_on : {root : List ℕ} {number : ℕ} {statements : List Stmt} {old new : Outside} {text : List ℕ} {how : Status} → Runs root number statements old new text how → IsBeforeStatements how → ⊥
 runs_on (done number old) (inl e) = cc
 runs_on (done number old) (inr (inl e)) = cc
 runs_on (done number old) (inr (inr e)) = cc
@@ -127,7 +127,7 @@ runs_on (unwritten number first more old new answer answered) (inr (inr e)) = cc
 
 -- ---- what was read of the source
 
-pub statements_read : {number : ℕ} {statements : List Stmt} {old new : Outside} {text : List ℕ} {ended : Status} (left now : Option (List ℕ)) → Runs number statements old new text ended → IsAtEnd now → ReadsSource ended left now
+pub statements_read : {root : List ℕ} {number : ℕ} {statements : List Stmt} {old new : Outside} {text : List ℕ} {ended : Status} (left now : Option (List ℕ)) → Runs root number statements old new text ended → IsAtEnd now → ReadsSource ended left now
 statements_read left now (done number files) at_end = at_end
 statements_read left now (accepted number first more old mid new text rest end answered runs) at_end = statements_read left now runs at_end
 statements_read left now (refused number first more old new refusal answered) at_end = at_end

@@ -74,7 +74,7 @@ pub data Does {W : Type 0} (words : List W) (script : List ℕ) : Outside → Ou
       → EndsLine ending text how → Does words script old old text how
   -- the statements are run, the first with the number 1
   ran : (statements : List Stmt) (old new : Outside) (text : List ℕ) (how : Status)
-      → IsDue words script (due.Runs statements) → Runs 1 statements old new text how
+      → IsDue words script (due.Runs statements) → Runs [] 1 statements old new text how
       → Does words script old new text how
   -- a call of the source failed before the script was read, which only a run without words asks for
   unread : (old : Outside) → words ≡ [] → Does words script old old [] status.SourceFailed

@@ -62,17 +62,17 @@ status_of_fault sink.Failed = status.SinkFailed
 status_of_fault sink.Memory = status.NoMemory
 
 -- a statement is run and its text written: the next is run, or the run ends
-abbrev pub RunsOne : ℕ → Stmt → Outside → Outside → Option (List ℕ) → Option (List ℕ) → Result (Unit {0}) Status
+abbrev pub RunsOne : List ℕ → ℕ → Stmt → Outside → Outside → Option (List ℕ) → Option (List ℕ) → Result (Unit {0}) Status
     → Type 0
-RunsOne number first before after old new (Ok _) =
-    (text : List ℕ) × Answers first before (Ok text) after × Appends old new text
-RunsOne number first before after old new (Err ended) =
-    (text : List ℕ) × Appends old new text × ((more : List Stmt) → Runs number (first ∷ more) before after text ended)
+RunsOne root number first before after old new (Ok _) =
+    (text : List ℕ) × Answers root first before (Ok text) after × Appends old new text
+RunsOne root number first before after old new (Err ended) =
+    (text : List ℕ) × Appends old new text × ((more : List Stmt) → Runs root number (first ∷ more) before after text ended)
 
 -- statements are run and their texts written
-abbrev pub RunsAll : List Stmt → Outside → Outside → Option (List ℕ) → Option (List ℕ) → Status → Type 0
-RunsAll statements before after old new ended =
-    (text : List ℕ) × Appends old new text × Runs 1 statements before after text ended
+abbrev pub RunsAll : List ℕ → List Stmt → Outside → Outside → Option (List ℕ) → Option (List ℕ) → Status → Type 0
+RunsAll root statements before after old new ended =
+    (text : List ℕ) × Appends old new text × Runs root 1 statements before after text ended
 
 -- where the run goes on no count rose
 abbrev pub BlamesOne : Counters → Counters → Result (Unit {0}) Status → Type 0

@@ -22,6 +22,7 @@ use Rattle.sql_statements.specs.declared.SelectItems.{SelectItems}
 use Rattle.sql_tree.specs.declared.tree.Expr.{Expr}
 use Rattle.table_load.specs.Held.{TableRow, TableState, held_at}
 use Rattle.table_load.specs.Properties.{are_tracked}
+use Rattle.table_write.specs.Writing.{of_statement, of_table}
 use Rattle.typed_expr.specs.declared.scope.ScopeColumn.{ScopeColumn}
 use Rattle.typed_expr.specs.declared.tree.TypedExpr.{TypedExpr}
 use Rattle.vector_eval.specs.Batches.{found_or}
@@ -87,18 +88,10 @@ selected table items x state =
 
 -- ---- the answer
 
-abbrev pub of_table : {A : Type 0} → Result A TableRefusal → Result A Refused
-of_table (Ok a) = Ok a
-of_table (Err refusal) = Err (refused.Table refusal)
-
-abbrev pub of_statement : {A : Type 0} → Result A StatementRefusal → Result A Refused
-of_statement (Ok a) = Ok a
-of_statement (Err refusal) = Err (refused.Statement refusal)
-
--- the answer over the table in a folder at the version that is asked for, or else the newest
-unfoldable pub select : List ℕ → Option ℕ → SelectItems → Option Expr → Files → Result (List ℕ) Refused
-select table asked items x files =
-    go (of_table (held_at table asked files)) (λ state. of_statement (selected table items x state))
+-- the answer over the table in a folder, of this name, at the version that is asked for, or else the newest
+unfoldable pub select : List ℕ → List ℕ → Option ℕ → SelectItems → Option Expr → Files → Result (List ℕ) Refused
+select folder table asked items x files =
+    go (of_table (held_at folder asked files)) (λ state. of_statement (selected table items x state))
 
 -- the value, or the refusal, that the definition gives of the files, where the store tells them
 abbrev pub TellsAnswer : {A : Type 0} → Option Files → (Files → Result A Refused) → Result A Stop → Type 0

@@ -14,8 +14,8 @@ use Rattle.log_replay.specs.Live.{live_adds, paths_of}
 abbrev pub path_lines : List (List ℕ) → List ℕ
 path_lines paths = flat_map (λ path. field path ++ 10 ∷ []) paths
 
--- the paths as logged, in byte order
+-- the paths of the table in a folder as logged, in byte order
 unfoldable pub show_files : List ℕ → Files → Result (List ℕ) TableRefusal
-show_files table files =
-    go (commits_at None (log_of table files)) (λ commits.
+show_files folder files =
+    go (commits_at None (log_of folder files)) (λ commits.
     Ok (path_lines (in_byte_order (paths_of (live_adds commits)))))

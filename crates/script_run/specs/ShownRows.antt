@@ -26,4 +26,4 @@ rows_text state = lines_text (head_line state.columns
 
 -- the rows of the table in a folder at the version that is asked for, or else the newest
 unfoldable pub show_rows : List ℕ → Option ℕ → Files → Result (List ℕ) TableRefusal
-show_rows table asked files = go (held_at table asked files) (λ state. Ok (rows_text state))
+show_rows folder asked files = go (held_at folder asked files) (λ state. Ok (rows_text state))

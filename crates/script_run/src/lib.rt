@@ -11,10 +11,12 @@ mod script;
 mod selected;
 mod shown;
 mod shown_rows;
+mod statement;
 mod statements;
 mod status;
 mod value_lines;
 
 pub use outcome::{Due, Outcome};
 pub use runs::run;
+pub use statement::run_statement;
 pub use status::Status;

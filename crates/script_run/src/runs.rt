@@ -12,8 +12,11 @@ use crate::script::statements_of;
 use crate::statements::run_statements;
 use crate::status::Status;
 use dm_store::{Clock, NameSource, Sink, Source, Store, TakeFault, take_all};
+use dm_types::Text;
 use sql_reader::ScriptFault;
 use std::alloc::{AllocError, Global};
+use std::marker::Brand;
+use std::sync::ledger::Blank;
 
 /// The longest script, in bytes.
 pub(crate) const MAX_SCRIPT: usize = 1_048_576;
@@ -73,7 +76,20 @@ fn run_words<I: Source, S: Store, K: Sink, C: Clock, N: NameSource>(
 {
     match what_is_due(alloc, words, script) {
         Ok(Due::Ends(outcome)) => end(out, &outcome),
-        Ok(Due::Runs(statements)) => run_statements(alloc, store, out, clock, names, &statements),
+        Ok(Due::Runs(statements)) => {
+            let root = Text::new(alloc);
+            let steps = Blank::new(1);
+            run_statements::<S, K, C, N, Brand>(
+                alloc,
+                &statements,
+                &root,
+                store,
+                out,
+                clock,
+                names,
+                steps,
+            )
+        }
         Err(Halt::Source) => Status::SourceFailed,
         Err(Halt::Memory) => Status::NoMemory,
     }

@@ -32,26 +32,28 @@ use table_load::{Loaded, Purpose, load_table, tracks_rows};
 use typed_expr::{Scope, ScopeColumn};
 
 /// The text of a SELECT: a line with the names of its items, and then a line with their values for
-/// each row on which the condition holds, of the table at the version, or at the newest where none is
-/// asked for.
+/// each row on which the condition holds, of the table in a folder at the version, or at the newest
+/// where none is asked for. Expressions see its columns under the table's name.
 ///
 /// Fields are parted by tabs. Where rows are tracked, they are in ascending order of their ids; else
 /// the lines are in byte order.
 pub(crate) fn select<'a, S: Store>(
     alloc: Global,
     store: &mut S,
+    folder: &Text,
     table: &Text,
     version: Option<u64>,
     items: &'a SelectItems,
     condition: Option<&'a Expr>,
 ) -> Result<Bytes, Stop>
     ensures answer { spec.TellsAnswer (S.files store.old)
-        (λ files. spec.select table.now version items.now (option_copied condition.entry) files) result }
+        (λ files. spec.select folder.now table.now version items.now (option_copied condition.entry) files)
+        result }
     ensures kept { S.files store.new ≡ S.files store.old }
     ensures cause { Counts StopCause (S.faults store.old) (S.faults store.new) result }
     ensures taken { S.taken store.new ≡ S.taken store.old }
 {
-    let loaded = load_table(alloc, store, table, version, Purpose::Read)?;
+    let loaded = load_table(alloc, store, folder, version, Purpose::Read)?;
     select_from(alloc, table, items, condition, &loaded)
 }
 

@@ -12,19 +12,19 @@ use log_replay::live_paths;
 use std::alloc::{AllocError, Global};
 use table_load::load_log;
 
-/// The text of SHOW FILES: a line for each live file of the newest version, its path as logged, in
-/// byte order of the paths.
+/// The text of SHOW FILES: a line for each live file of the newest version of the table in a folder,
+/// its path as logged, in byte order of the paths.
 pub(crate) fn show_files<S: Store>(
     alloc: Global,
     store: &mut S,
-    table: &Text,
+    folder: &Text,
 ) -> Result<Bytes, Stop>
-    ensures answer { Tells (S.files store.old) (λ files. spec.show_files table.now files) result }
+    ensures answer { Tells (S.files store.old) (λ files. spec.show_files folder.now files) result }
     ensures kept { S.files store.new ≡ S.files store.old }
     ensures cause { Counts StopCause (S.faults store.old) (S.faults store.new) result }
     ensures taken { S.taken store.new ≡ S.taken store.old }
 {
-    let commits = load_log(alloc, store, table, None)?;
+    let commits = load_log(alloc, store, folder, None)?;
     let mut paths = live_paths(alloc, &commits)?;
     sort_texts(&mut paths);
     Ok(path_lines(alloc, &paths)?)

@@ -21,7 +21,7 @@ use std::alloc::{AllocError, Global};
 use table_load::{Loaded, Purpose, load_table, tracks_rows};
 
 /// The text of SHOW ROWS: a line with `id`, `version` and the names of the columns, and then a line for
-/// each row of the table at the version, or at the newest where none is asked for: its id, its commit
+/// each row of the table in a folder at the version, or at the newest where none is asked for: its id, its commit
 /// version and its values.
 ///
 /// Fields are parted by tabs. Where rows are tracked, they are in ascending order of their ids; else
@@ -29,15 +29,15 @@ use table_load::{Loaded, Purpose, load_table, tracks_rows};
 pub(crate) fn show_rows<S: Store>(
     alloc: Global,
     store: &mut S,
-    table: &Text,
+    folder: &Text,
     version: Option<u64>,
 ) -> Result<Bytes, Stop>
-    ensures answer { Tells (S.files store.old) (λ files. spec.show_rows table.now version files) result }
+    ensures answer { Tells (S.files store.old) (λ files. spec.show_rows folder.now version files) result }
     ensures kept { S.files store.new ≡ S.files store.old }
     ensures cause { Counts StopCause (S.faults store.old) (S.faults store.new) result }
     ensures taken { S.taken store.new ≡ S.taken store.old }
 {
-    let loaded = load_table(alloc, store, table, version, Purpose::Read)?;
+    let loaded = load_table(alloc, store, folder, version, Purpose::Read)?;
     Ok(rows_text(alloc, &loaded)?)
 }
 

@@ -1,42 +1,48 @@
 // Running the statements of a script in turn.
-ghost use Rattle.dm_store.specs.Causes.{Counts, StopCause, DrawCause};
+ghost use Rattle.std.specs.Prelude.{◌≡◌, ◌<◌};
 ghost use Rattle.table_write.specs.Outside.{outside};
 ghost use Rattle.script_run.specs.Ran.{counters, Blames};
 ghost use Rattle.script_run.specs.Reaching.{RunsOne, RunsAll, BlamesOne};
-ghost use Rattle.script_run.specs.Running.{Answers};
 
 use crate::outcome::refusal_line;
-use crate::selected::select;
-use crate::shown::show_files;
-use crate::shown_rows::show_rows;
+use crate::statement::run_statement;
 use crate::status::Status;
 use dm_store::{Clock, NameSource, Sink, Store};
-use dm_types::{Bytes, Stop};
+use dm_types::{Stop, Text};
 use sql_reader::{Stmt, Stmts};
 use std::alloc::Global;
-use table_write::delete_from;
+use std::sync::ledger::{Blank, Ledger};
+use step_count::Steps;
 
-/// Runs statement after statement. The text of each is written in one piece after it; the first
-/// refusal ends the run with a line.
-pub(crate) fn run_statements<S: Store, K: Sink, C: Clock, N: NameSource>(
+/// Runs statement after statement on the tables below a root. The text of each is written in one
+/// piece after it; the first refusal ends the run with a line.
+pub(crate) fn run_statements<S: Store, K: Sink, C: Clock, N: NameSource, L: Ledger>(
     alloc: Global,
+    statements: &Stmts,
+    root: &Text,
     store: &mut S,
     out: &mut K,
     clock: &mut C,
     names: &mut N,
-    statements: &Stmts,
+    blank: Blank,
 ) -> Status
+    requires name { blank.name ≡ L.name }
+    requires parts { blank.parts ≡ L.parts }
+    requires some { 0 < blank.parts }
     ensures runs { let old = outside (S.files store.old) (S.taken store.old) (N.given names.old) (C.given clock.old) in
         let new = outside (S.files store.new) (S.taken store.new) (N.given names.new) (C.given clock.new) in
-        RunsAll statements.now old new (K.written out.old) (K.written out.new) result }
+        RunsAll root.now statements.now old new (K.written out.old) (K.written out.new) result }
     ensures blame { let before = counters (S.faults store.old) (K.faults out.old) 0 (N.faults names.old) in
         let now = counters (S.faults store.new) (K.faults out.new) 0 (N.faults names.new) in
         Blames result before now }
 {
+    let mut steps = Steps::<L>::open(blank);
     let mut number = 0;
     for statement in statements.as_slice() {
         number += 1;
-        if let Err(status) = run_numbered(alloc, store, out, clock, names, number, statement) {
+        if let Err(status) = run_numbered(
+            alloc, number, statement, root, store, out, clock, names, &mut steps,
+        ) {
             return status;
         }
     }
@@ -44,23 +50,25 @@ pub(crate) fn run_statements<S: Store, K: Sink, C: Clock, N: NameSource>(
 }
 
 // Runs the statement of this number, and writes its text or the line of its refusal.
-fn run_numbered<S: Store, K: Sink, C: Clock, N: NameSource>(
+fn run_numbered<S: Store, K: Sink, C: Clock, N: NameSource, L: Ledger>(
     alloc: Global,
+    number: u64,
+    statement: &Stmt,
+    root: &Text,
     store: &mut S,
     out: &mut K,
     clock: &mut C,
     names: &mut N,
-    number: u64,
-    statement: &Stmt,
+    steps: &mut Steps<L>,
 ) -> Result<(), Status>
     ensures runs { let old = outside (S.files store.old) (S.taken store.old) (N.given names.old) (C.given clock.old) in
         let new = outside (S.files store.new) (S.taken store.new) (N.given names.new) (C.given clock.new) in
-        RunsOne number statement.now old new (K.written out.old) (K.written out.new) result }
+        RunsOne root.now number statement.now old new (K.written out.old) (K.written out.new) result }
     ensures blame { let before = counters (S.faults store.old) (K.faults out.old) 0 (N.faults names.old) in
         let now = counters (S.faults store.new) (K.faults out.new) 0 (N.faults names.new) in
         BlamesOne before now result }
 {
-    match run_statement(alloc, store, clock, names, statement) {
+    match run_statement(alloc, statement, root, store, clock, names, steps) {
         Ok(text) => Ok(out.put(text.as_slice())?),
         Err(Stop::Refused(why)) => {
             let line = refusal_line(alloc, number, &why)?;
@@ -70,40 +78,5 @@ fn run_numbered<S: Store, K: Sink, C: Clock, N: NameSource>(
         Err(Stop::Store) => Err(Status::StoreFailed),
         Err(Stop::Names) => Err(Status::NamesFailed),
         Err(Stop::Memory) => Err(Status::NoMemory),
-    }
-}
-
-// The text of a statement.
-fn run_statement<S: Store, C: Clock, N: NameSource>(
-    alloc: Global,
-    store: &mut S,
-    clock: &mut C,
-    names: &mut N,
-    statement: &Stmt,
-) -> Result<Bytes, Stop>
-    ensures answer { let old = outside
-        (S.files store.old) (S.taken store.old) (N.given names.old) (C.given clock.old) in
-        let new = outside (S.files store.new) (S.taken store.new) (N.given names.new) (C.given clock.new) in
-        Answers statement.now old result new }
-    ensures cause { Counts StopCause (S.faults store.old) (S.faults store.new) result }
-    ensures draws { Counts DrawCause (N.faults names.old) (N.faults names.new) result }
-{
-    match statement {
-        Stmt::ShowFiles { table } => show_files(alloc, store, &table.text),
-        Stmt::ShowRows { table, version } => show_rows(alloc, store, &table.text, *version),
-        Stmt::Select {
-            items,
-            table,
-            version,
-            condition,
-        } => select(
-            alloc,
-            store,
-            &table.text,
-            *version,
-            items,
-            condition.as_ref(),
-        ),
-        Stmt::Delete { table } => delete_from(alloc, store, clock, names, &table.text),
     }
 }

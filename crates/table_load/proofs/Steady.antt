@@ -1,6 +1,7 @@
 -- A state that files hold, when files are added: what is read of a file is told by the bytes at its path alone.
 use Rattle.std.proofs.Common.{◌≡◌, ℕ, Bool, true, false, cond, List, [], ◌∷◌, ◌++◌, Option, Some, None, Result, Ok, Err, refl, sym, ap, subst, unwrap_or}
 use Rattle.dm_store.specs.LoggedPath.{path_of}
+use Rattle.table_log.specs.Log.{below}
 use Rattle.dm_types.specs.Then.{go}
 use Rattle.dm_types.specs.declared.refusal.TableRefusal.{TableRefusal}
 use Rattle.dm_types.specs.declared.refusal.TableRefusal.TheVariants as refusal
@@ -9,7 +10,7 @@ use Rattle.data_file.specs.Rows.{rows_of}
 use Rattle.data_file.specs.Wanted.{WantedColumns}
 use Rattle.data_file.specs.declared.room.Room.{Room}
 use Rattle.delta_actions.specs.declared.action.AddAction.{AddAction}
-use Rattle.table_load.specs.Files.{Earlier, Joined, Look, begun, below, bytes_of, columns_of, files_from, is_path_of, live_files, new_path, or_refused, part_in, path_in, told, with_file, with_part}
+use Rattle.table_load.specs.Files.{Earlier, Joined, Look, begun, bytes_of, columns_of, files_from, is_path_of, live_files, new_path, or_refused, part_in, path_in, told, with_file, with_part}
 use Rattle.table_load.specs.Held.{Opened, TableState, opened, sound_ids, state_of}
 use Rattle.table_load.specs.declared.head.Head.{Head}
 

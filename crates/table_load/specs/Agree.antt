@@ -5,10 +5,9 @@ use Rattle.dm_store.specs.Files.{Files, lookup}
 use Rattle.dm_store.specs.LoggedPath.{path_of}
 use Rattle.dm_types.specs.declared.refusal.TableRefusal.TheVariants as refusal
 use Rattle.log_replay.specs.declared.numbers.TheConstants.{MAX_COMMITS}
-use Rattle.table_load.specs.Files.{below}
 use Rattle.table_load.specs.Held.{held}
 use Rattle.table_log.specs.Agree.{AreUnseen}
-use Rattle.table_log.specs.Log.{log_of, commit_path}
+use Rattle.table_log.specs.Log.{below, log_of, commit_path}
 use Rattle.table_log.specs.Versions.{newest_version}
 
 -- a version of the table in a folder

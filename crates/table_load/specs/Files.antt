@@ -26,6 +26,7 @@ use Rattle.log_replay.specs.declared.snapshot.Snapshot.{Snapshot}
 use Rattle.row_tracking.specs.Checked.{no_row}
 use Rattle.row_tracking.specs.Ids.{lacks_base, row_id_at}
 use Rattle.row_tracking.specs.declared.row_id.RowId.{RowId}
+use Rattle.table_log.specs.Log.{below}
 use Rattle.table_load.specs.Head.{name_at}
 use Rattle.table_load.specs.Properties.{property, tracks_rows}
 use Rattle.table_load.specs.declared.files.FileRange.{FileRange}
@@ -91,10 +92,6 @@ abbrev pub path_in : Earlier → Bool → List ℕ → Result (List ℕ) TableRe
 path_in is_earlier vector logged =
     if vector then Err (refusal.DeletionVector logged)
     else go (or_refused (refusal.BadPath logged) (path_of logged)) (new_path is_earlier logged)
-
--- a path below a folder
-abbrev pub below : List ℕ → List ℕ → List ℕ
-below folder path = folder ++ 47 ∷ path
 
 -- the bytes at each path of the store, where a file is there
 abbrev pub Look : Type 0

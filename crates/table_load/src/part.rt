@@ -22,6 +22,7 @@ use dm_types::{Bytes, PartitionValues, Stop, TableRefusal, Text};
 use log_replay::Snapshot;
 use std::alloc::{AllocError, Global};
 use std::collections::BTreeSet;
+use table_log::path_below;
 
 /// What an action says of its file.
 #[derive(Clone, Copy)]
@@ -49,8 +50,9 @@ fn materialized<'a>(table: &'a Snapshot, name: &str) -> Option<&'a Text>
     }
 }
 
-/// What is read of each file of a table.
-pub(crate) fn columns_of(head: &Head, change: bool) -> Columns<'_>
+/// What is read of each file of a table: its columns, and the materialized columns that its rows' ids
+/// and commit versions are in, where rows are tracked; of a change file the kinds of changes too.
+pub fn columns_of(head: &Head, change: bool) -> Columns<'_>
     ensures { wanted result ≡ spec.columns_of change head.entry.now }
 {
     let table = &head.snapshot;
@@ -171,16 +173,6 @@ fn path_in(
     }
 }
 
-// A path below a folder.
-fn below(folder: &Text, path: &Text) -> Result<Text, AllocError>
-    ensures { IfOk result (λ it. it ≡ spec.below folder.now path.now) }
-{
-    let mut below = folder.clone()?;
-    below.push('/')?;
-    below.push_str(path.as_str())?;
-    Ok(below)
-}
-
 // The bytes of the file of a path below the table's folder.
 fn bytes_of<S: Store>(
     alloc: Global,
@@ -195,7 +187,7 @@ fn bytes_of<S: Store>(
     ensures cause { Counts StopCause (S.faults store.old) (S.faults store.new) result }
     ensures taken { S.taken store.new ≡ S.taken store.old }
 {
-    let place = below(folder, path)?;
+    let place = path_below(folder, path)?;
     match store.read(alloc, place.as_str()) {
         Ok(bytes) => Ok(bytes),
         Err(ReadFault::Absent) => is_missing(logged),

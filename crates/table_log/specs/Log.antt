@@ -7,6 +7,10 @@ use Rattle.std.specs.Str.Parse.{digits_value}
 use Rattle.dm_store.specs.Files.{Files, name_below}
 use Rattle.dm_types.specs.Then.{◌>>=◌}
 
+-- a path below a folder
+abbrev pub below : List ℕ → List ℕ → List ℕ
+below folder path = folder ++ 47 ∷ path
+
 -- the folder of the commit files
 abbrev pub log_folder : List ℕ → List ℕ
 log_folder table = table ++ codes "/_delta_log"
@@ -22,7 +26,7 @@ commit_name version = digits_of_width 20 version ++ codes ".json"
 
 -- its path, below the table's folder
 unfoldable pub commit_path : List ℕ → ℕ → List ℕ
-commit_path table version = log_folder table ++ 47 ∷ commit_name version
+commit_path table version = below (log_folder table) (commit_name version)
 
 -- the version that the name of a commit file spells: twenty digits and `.json`, up to 2^63 - 1
 unfoldable pub version_of : List ℕ → Option ℕ

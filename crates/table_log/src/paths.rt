@@ -1,10 +1,20 @@
-// The names of commit files (PROTOCOL.md, "Delta Log Entries").
+// The paths of a table's files, and the names of its commit files (PROTOCOL.md, "Delta Log Entries").
 ghost use Rattle.std.specs.Prelude.{◌≡◌, IfOk, string_bytes};
 ghost use Rattle.std.specs.Str.{all_ascii_digits};
 ghost use Rattle.table_log.specs.Log as spec;
 
 use dm_types::Text;
 use std::alloc::{AllocError, Global};
+
+/// A path below a folder.
+pub fn path_below(folder: &Text, path: &Text) -> Result<Text, AllocError>
+    ensures { IfOk result (λ whole. whole ≡ spec.below folder.now path.now) }
+{
+    let mut whole = folder.clone()?;
+    whole.push('/')?;
+    whole.push_str(path.as_str())?;
+    Ok(whole)
+}
 
 /// The folder of a table's commit files.
 pub fn log_folder(alloc: Global, table: &Text) -> Result<String, AllocError>

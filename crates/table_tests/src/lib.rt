@@ -10,4 +10,6 @@ mod logs;
 #[cfg(test)]
 mod rows;
 #[cfg(test)]
+mod rules;
+#[cfg(test)]
 mod selects;

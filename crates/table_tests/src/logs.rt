@@ -83,11 +83,11 @@ pub(crate) const NARROW: &str = concat!(
 );
 
 /// A table of `k` and `v` whose rows are tracked, with materialized ids `i` and versions `c`, and a
-/// check that nobody here reads.
+/// check.
 pub(crate) const TRACKED: &str = concat!(
     r#"{"protocol":{"minReaderVersion":1,"minWriterVersion":7,"writerFeatures":["checkConstraints","domainMetadata","rowTracking"]}}"#,
     "\n",
-    r#"{"metaData":{"id":"i","configuration":{"delta.constraints.c":"upper(v) = v","delta.enableRowTracking":"true","delta.rowTracking.materializedRowIdColumnName":"i","delta.rowTracking.materializedRowCommitVersionColumnName":"c"},"schemaString":"{\"type\":\"struct\",\"fields\":[{\"name\":\"k\",\"type\":\"long\",\"nullable\":true,\"metadata\":{}},{\"name\":\"v\",\"type\":\"string\",\"nullable\":true,\"metadata\":{}}]}"}}"#,
+    r#"{"metaData":{"id":"i","configuration":{"delta.constraints.c":"v <> '' OR k > 0","delta.enableRowTracking":"true","delta.rowTracking.materializedRowIdColumnName":"i","delta.rowTracking.materializedRowCommitVersionColumnName":"c"},"schemaString":"{\"type\":\"struct\",\"fields\":[{\"name\":\"k\",\"type\":\"long\",\"nullable\":true,\"metadata\":{}},{\"name\":\"v\",\"type\":\"string\",\"nullable\":true,\"metadata\":{}}]}"}}"#,
     "\n",
 );
 

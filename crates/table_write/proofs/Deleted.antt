@@ -49,10 +49,10 @@ use Rattle.commit_log.specs.Block.{files_of, block_of, commit_file}
 use Rattle.commit_log.specs.Commits.{AllPut, SomePut, ReadsBack}
 use Rattle.commit_log.specs.declared.new_files.NewFiles.{NewFiles}
 use Rattle.table_write.proofs.EmptyState.{IsSilent, WasOpened, held_before, held_empty, nothing_said}
-use Rattle.table_write.specs.Delete.{changeable, deletable, delete_actions, deletion, delete_from}
+use Rattle.table_write.specs.Delete.{head_check, deletable, delete_actions, deletion, delete_from}
 use Rattle.table_write.specs.Emptied.{DeletesAll, DeleteEmpties, LeavesFiles, DeleteStands}
 use Rattle.table_write.specs.Outside.{Outside}
-use Rattle.table_write.specs.Writing.{of_table, of_statement, IsCutOff, IsStarved, NameIsTaken, VersionIsTaken, version_line}
+use Rattle.table_write.specs.Writing.{of_table, IsCutOff, IsStarved, NameIsTaken, VersionIsTaken, version_line}
 
 -- ---- what passed
 
@@ -154,7 +154,7 @@ deleted_from : FilesArePlain → (folder : List ℕ) (files : Files) (table : Sn
 unfolding deletable
 deleted_from plain folder files table e =
     let (found, opens, checks) = went (of_table (opened_for purpose.Write folder None files)) _ table e in
-    let (u, passes, same) = went (of_statement (changeable found.head.snapshot)) (λ _. Ok found.head.snapshot) table checks in
+    let (u, passes, same) = went (head_check found.head) (λ _. Ok found.head.snapshot) table checks in
     let is : found.head.snapshot ≡ table = cc in
     subst (λ (t : Snapshot). WasOpen folder files t) is (opened_was plain folder files found (table_passed (opened_for purpose.Write folder None files) found opens))
 

@@ -5,25 +5,35 @@ use Rattle.dm_store.specs.Files.{Files, WhereTold}
 use Rattle.dm_store.specs.Given.{Gave}
 use Rattle.dm_types.specs.declared.refusal.Refused.TheVariants as refused
 use Rattle.dm_types.specs.declared.refusal.StatementRefusal.{StatementRefusal}
+use Rattle.dm_types.specs.declared.refusal.PutRefusal.{PutRefusal}
 use Rattle.dm_types.specs.declared.refusal.PutRefusal.TheVariants as clash
 use Rattle.dm_types.specs.declared.refusal.Stop.{Stop}
 use Rattle.dm_types.specs.declared.refusal.Stop.TheVariants as stop
 use Rattle.log_replay.specs.declared.snapshot.Snapshot.{Snapshot}
 use Rattle.std.specs.List.{IsDistinct}
-use Rattle.dm_store.specs.Causes.{Counts, DrawCause}
+use Rattle.dm_store.specs.Causes.{Counts, DrawCause, StopCause}
 use Rattle.commit_log.specs.Block.{files_of, AreApart}
 use Rattle.commit_log.specs.Commits.{AllPut, Commits, IsBuilt, CommitTaken, stop_of}
 use Rattle.commit_log.specs.declared.fault.CommitFault.{CommitFault}
 use Rattle.commit_log.specs.declared.fault.CommitFault.TheVariants as fault
 use Rattle.commit_log.specs.declared.new_files.NewFiles.{NewFiles}
+use Rattle.dm_types.specs.Then.{go}
+use Rattle.dm_types.specs.declared.refusal.TableRefusal.{TableRefusal}
+use Rattle.row_rules.specs.Answers as rules
+use Rattle.row_rules.specs.Answers.{Reads}
+use Rattle.row_rules.specs.Rules.{kept_rules, rules_of}
+use Rattle.row_rules.specs.declared.fault.RuleFault.{RuleFault}
+use Rattle.row_rules.specs.declared.fault.RuleFault.TheVariants as rule
+use Rattle.row_rules.specs.declared.rules.Rules.{Rules}
 use Rattle.table_load.specs.Loaded.{opened_for, seen}
+use Rattle.table_load.specs.declared.head.Head.{Head}
 use Rattle.table_load.specs.Tells.{TellsAs}
 use Rattle.table_load.specs.declared.loaded.Loaded.{Loaded}
 use Rattle.table_load.specs.declared.loaded.Purpose.TheVariants as purpose
-use Rattle.table_write.specs.Delete.{changeable, deletable, deletion, delete_from}
+use Rattle.table_write.specs.Delete.{changeable, deletable, deletion, delete_from, head_check}
 use Rattle.table_write.specs.Outside.{outside}
-use Rattle.table_write.specs.StepsWriting.{TellsPlan, DrawsName, PutsVersion}
-use Rattle.table_write.specs.Writing.{Write, IsMade, CarriesOut}
+use Rattle.table_write.specs.StepsWriting.{Passes, TellsPlan, DrawsName, PutsVersion}
+use Rattle.table_write.specs.Writing.{of_table, of_statement, Write, IsMade, CarriesOut}
 
 -- ---- the checks of DELETE
 
@@ -40,22 +50,57 @@ deletable_refused told table (stop.Refused (refused.Put refusal)) loaded = absur
 pub not_loaded : (told : Option Files) (table : List ℕ) (why : Stop) (answer : Result Snapshot Stop) → answer ≡ Err why → TellsAs {X = Loaded} seen told (opened_for purpose.Write table None) (Err why) → TellsPlan told (deletable table) answer
 not_loaded told table why answer is loaded = subst (λ (r : Result Snapshot Stop). TellsPlan told (deletable table) r) (sym is) (deletable_refused told table why loaded)
 
-changeable_refused : (told : Option Files) (table : List ℕ) (found : Loaded) (why : StatementRefusal) → WhereTold told (λ files. opened_for purpose.Write table None files ≡ Ok (seen found)) → changeable found.head.snapshot ≡ Err why → TellsPlan told (deletable table) (Err (stop.Refused (refused.Statement why)))
-unfolding deletable
-changeable_refused None table found why loaded is = tt
-changeable_refused (Some files) table found why loaded is = rw (loaded, is) refl
-
 -- what `?` hands on
-pub handed : (answer : Result Snapshot Stop) (why : StatementRefusal) → IsErrAnd answer (λ found. found ≡ stop.Refused (refused.Statement why)) → answer ≡ Err (stop.Refused (refused.Statement why))
+pub handed : {A : Type 0} (answer : Result A Stop) (why : Stop) → IsErrAnd answer (λ found. found ≡ why) → answer ≡ Err why
 handed (Ok found) why is = absurd is
-handed (Err found) why is = let e : found ≡ stop.Refused (refused.Statement why) = is in cc
+handed (Err found) why is = let e : found ≡ why = is in cc
 
-pub not_changeable : (told : Option Files) (table : List ℕ) (found : Loaded) (why : StatementRefusal) (answer : Result Snapshot Stop) → answer ≡ Err (stop.Refused (refused.Statement why)) → WhereTold told (λ files. opened_for purpose.Write table None files ≡ Ok (seen found))
-    → changeable found.head.snapshot ≡ Err why → TellsPlan told (deletable table) answer
-not_changeable told table found why answer ends loaded is =
-    subst (λ (r : Result Snapshot Stop). TellsPlan told (deletable table) r) (sym ends) (changeable_refused told table found why loaded is)
+-- a rule that can't be kept
+pub rules_refused : (head : Head) (fault : RuleFault) (answer : Result (Unit {0}) Stop) → IsErrAnd answer (λ found. found ≡ rules.stop_of fault) → Reads (rules_of head) (Err fault) → Passes (head_check head) answer
+rules_refused head (rule.Unsupported name) answer is unkept = rw (handed answer _ is, unkept) refl
+rules_refused head rule.Memory answer is unkept = rw (handed answer stop.Memory is) tt
 
-pub is_deletable : (told : Option Files) (table : List ℕ) (found : Loaded) → WhereTold told (λ files. opened_for purpose.Write table None files ≡ Ok (seen found)) → changeable found.head.snapshot ≡ Ok tt → WhereTold told (λ files. deletable table files ≡ Ok found.head.snapshot)
+pub not_changeable : (head : Head) (kept : Rules) (fault : StatementRefusal) (answer : Result (Unit {0}) Stop) → IsErrAnd answer (λ found. found ≡ stop.Refused (refused.Statement fault)) → rules_of head ≡ Ok kept → changeable head.snapshot ≡ Err fault
+    → Passes (head_check head) answer
+not_changeable head kept fault answer is rules changes = rw (handed answer (stop.Refused (refused.Statement fault)) is, rules, changes) refl
+
+pub head_passes : (head : Head) (kept : Rules) → rules_of head ≡ Ok kept → changeable head.snapshot ≡ Ok tt → head_check head ≡ Ok tt
+head_passes head kept rules changes = rw (rules, changes) refl
+
+-- the checks of an opened table refuse nothing that is put
+nothing_to_put : {A : Type 0} (table : Result A TableRefusal) (statement : Result (Unit {0}) StatementRefusal) (refusal : PutRefusal) → go (of_table table) (λ a. of_statement statement) ≡ Err (refused.Put refusal) → ⊥
+nothing_to_put (Ok a) (Ok u) refusal e = cc
+nothing_to_put (Ok a) (Err r) refusal e = cc
+nothing_to_put (Err r) statement refusal e = cc
+
+head_refused : (told : Option Files) (table : List ℕ) (found : Loaded) (why : Stop) → WhereTold told (λ files. opened_for purpose.Write table None files ≡ Ok (seen found)) → Passes (head_check found.head) (Err why) → TellsPlan {A = Snapshot} told (deletable table) (Err why)
+unfolding deletable
+head_refused told table found stop.Store loaded fails = absurd fails
+head_refused told table found stop.Names loaded fails = absurd fails
+head_refused told table found stop.Memory loaded fails = tt
+head_refused None table found (stop.Refused (refused.Table refusal)) loaded fails = tt
+head_refused (Some files) table found (stop.Refused (refused.Table refusal)) loaded fails = rw (loaded, fails) refl
+head_refused None table found (stop.Refused (refused.Statement refusal)) loaded fails = tt
+head_refused (Some files) table found (stop.Refused (refused.Statement refusal)) loaded fails = rw (loaded, fails) refl
+head_refused told table found (stop.Refused (refused.Put refusal)) loaded fails = nothing_to_put (kept_rules found.head) (changeable found.head.snapshot) refusal fails
+
+-- the store isn't asked by them
+counts_as : (head : Head) (why : Stop) (before now : ℕ) → now ≡ before → Passes (head_check head) (Err why) → StopCause why before now
+counts_as head (stop.Refused refusal) before now same fails = same
+counts_as head stop.Store before now same fails = absurd fails
+counts_as head stop.Names before now same fails = absurd fails
+counts_as head stop.Memory before now same fails = same
+
+pub passes_count : (head : Head) (why : Stop) (answer : Result Snapshot Stop) (before now : ℕ) → answer ≡ Err why → now ≡ before → Passes (head_check head) (Err why) → Counts StopCause before now answer
+passes_count head why answer before now is same fails =
+    subst (λ (r : Result Snapshot Stop). Counts StopCause before now r) (sym is) (counts_as head why before now same fails)
+
+pub not_passed : (told : Option Files) (table : List ℕ) (found : Loaded) (why : Stop) (answer : Result Snapshot Stop) → answer ≡ Err why → WhereTold told (λ files. opened_for purpose.Write table None files ≡ Ok (seen found))
+    → Passes (head_check found.head) (Err why) → TellsPlan told (deletable table) answer
+not_passed told table found why answer is loaded fails =
+    subst (λ (r : Result Snapshot Stop). TellsPlan told (deletable table) r) (sym is) (head_refused told table found why loaded fails)
+
+pub is_deletable : (told : Option Files) (table : List ℕ) (found : Loaded) → WhereTold told (λ files. opened_for purpose.Write table None files ≡ Ok (seen found)) → head_check found.head ≡ Ok tt → WhereTold told (λ files. deletable table files ≡ Ok found.head.snapshot)
 unfolding deletable
 is_deletable None table found loaded is = tt
 is_deletable (Some files) table found loaded is = rw (loaded, is) refl

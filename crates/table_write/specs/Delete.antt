@@ -10,6 +10,8 @@ use Rattle.delta_actions.specs.declared.action.Action.{Action}
 use Rattle.delta_actions.specs.declared.action.Action.TheVariants as action
 use Rattle.log_replay.specs.declared.snapshot.Snapshot.{Snapshot}
 use Rattle.table_load.specs.Loaded.{opened_for}
+use Rattle.row_rules.specs.Rules.{kept_rules}
+use Rattle.table_load.specs.declared.head.Head.{Head}
 use Rattle.table_load.specs.declared.loaded.Purpose.TheVariants as purpose
 use Rattle.table_load.specs.Properties.{is_on, tracks_rows}
 use Rattle.commit_log.specs.declared.new_files.NewFiles.{NewFiles}
@@ -22,11 +24,15 @@ changeable table =
     else if tracks_rows table then Ok tt
     else Err refusal.RowTrackingOff
 
+-- each rule of an opened table can be kept, and its rows may be taken away
+abbrev pub head_check : Head → Result (Unit {0}) Refused
+head_check head = go (of_table (kept_rules head)) (λ rules. of_statement (changeable head.snapshot))
+
 -- the table's newest state, if its rows may be deleted, or the first refusal
 unfoldable pub deletable : List ℕ → Files → Result Snapshot Refused
 deletable table files =
     go (of_table (opened_for purpose.Write table None files)) (λ it.
-    go (of_statement (changeable it.head.snapshot)) (λ _. Ok it.head.snapshot))
+    go (head_check it.head) (λ _. Ok it.head.snapshot))
 
 -- where the commit comes from, and then a remove for each live file in log order
 abbrev pub delete_actions : Snapshot → ℤ → List Action

@@ -26,6 +26,14 @@ TellsPlan told checks (Err stop.Store) = ⊤
 TellsPlan told checks (Err stop.Names) = ⊥
 TellsPlan told checks (Err stop.Memory) = ⊤
 
+-- the checks of an opened table answer so, unless there was no memory
+abbrev pub Passes : Result (Unit {0}) Refused → Result (Unit {0}) Stop → Type 0
+Passes known (Ok _) = known ≡ Ok tt
+Passes known (Err (stop.Refused refusal)) = known ≡ Err refusal
+Passes known (Err stop.Store) = ⊥
+Passes known (Err stop.Names) = ⊥
+Passes known (Err stop.Memory) = ⊤
+
 -- the one draw of a write statement
 abbrev pub DrawsName : Option (List (List ℕ)) → Option (List (List ℕ)) → Result (List ℕ) Stop → Type 0
 DrawsName old new (Ok name) = Gave old new name

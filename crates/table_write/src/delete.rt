@@ -6,7 +6,7 @@ ghost use Rattle.delta_actions.specs.Removal.{removal_of};
 ghost use Rattle.delta_actions.specs.declared.action.Action.TheVariants as action;
 ghost use Rattle.table_write.specs.Delete as spec;
 ghost use Rattle.table_write.specs.Outside.{outside};
-ghost use Rattle.table_write.specs.StepsWriting.{TellsPlan};
+ghost use Rattle.table_write.specs.StepsWriting.{Passes, TellsPlan};
 ghost use Rattle.table_write.specs.Writing.{CarriesOut};
 
 use crate::writing::{draw, put_version};
@@ -15,8 +15,9 @@ use delta_actions::{Action, Actions, AddAction, InfoAction, remove_file};
 use dm_store::{Clock, NameSource, Store};
 use dm_types::{Bytes, PathBytes, StatementRefusal, Stop, Text};
 use log_replay::Snapshot;
+use row_rules::read_rules;
 use std::alloc::{AllocError, Global};
-use table_load::{Purpose, is_on, load_table, tracks_rows};
+use table_load::{Head, Purpose, is_on, load_table, tracks_rows};
 
 /// The text of DELETE FROM: the number of the new version, which removes each live file.
 ///
@@ -72,8 +73,17 @@ fn load_deletable<S: Store>(alloc: Global, store: &mut S, table: &Text) -> Resul
     ensures taken { S.taken store.new ≡ S.taken store.old }
 {
     let loaded = load_table(alloc, store, table, None, Purpose::Write)?;
-    check_changeable(&loaded.head.snapshot)?;
+    check_head(alloc, &loaded.head)?;
     Ok(loaded.head.snapshot)
+}
+
+// Each rule can be kept, and rows may be taken away.
+fn check_head(alloc: Global, head: &Head) -> Result<(), Stop>
+    ensures { Passes (spec.head_check head.now) result }
+{
+    read_rules(alloc, head)?;
+    check_changeable(&head.snapshot)?;
+    Ok(())
 }
 
 // Rows may be taken away, and they have ids.

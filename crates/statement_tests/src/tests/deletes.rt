@@ -15,7 +15,7 @@ pub(super) const DATA: (&str, &[u8]) = ("t/a.parquet", ONE_ROW);
 // A table of this file, whose row is tracked.
 pub(super) const TRACKED: &str = concat!(
     "{\"protocol\":{\"minReaderVersion\":1,\"minWriterVersion\":7,\"writerFeatures\":[\"domainMetadata\",\"rowTracking\"]}}\n",
-    r#"{"metaData":{"id":"i","configuration":{"delta.enableRowTracking":"true"},"schemaString":"{\"type\":\"struct\",\"fields\":[{\"name\":\"k\",\"type\":\"long\",\"nullable\":true,\"metadata\":{}},{\"name\":\"v\",\"type\":\"string\",\"nullable\":true,\"metadata\":{}}]}"}}"#,
+    r#"{"metaData":{"id":"i","configuration":{"delta.enableRowTracking":"true","delta.rowTracking.materializedRowIdColumnName":"i","delta.rowTracking.materializedRowCommitVersionColumnName":"c"},"schemaString":"{\"type\":\"struct\",\"fields\":[{\"name\":\"k\",\"type\":\"long\",\"nullable\":true,\"metadata\":{}},{\"name\":\"v\",\"type\":\"string\",\"nullable\":true,\"metadata\":{}}]}"}}"#,
     "\n",
     r#"{"domainMetadata":{"domain":"delta.rowTracking","configuration":"{\"rowIdHighWaterMark\":0}"}}"#,
     "\n",

@@ -1,3 +1,4 @@
+use Rattle.std.proofs.Common.{rules}
 use Rattle.script_run.proofs.Ending.{line_ran, statements_ran, source_failed, memory_failed}
 use Rattle.script_run.proofs.Turns.{line_read_on, runs_on, statements_read}
 use Rattle.script_run.proofs.runs.run_words.Goals as goal
@@ -8,7 +9,7 @@ returns-in-Ok-Ends-clause-ran g c =
 
 pub returns-in-Ok-Runs-clause-ran : goal.returns-in-Ok-Runs-clause-ran
 returns-in-Ok-Runs-clause-ran g c =
-    statements_ran c.args.words.now _ _ _ _ _ c.in-Ok-Runs.statements c.run_statements.result (rw c.in-Ok-Runs.field-0-is at c.in-Ok-Runs.ensures.due) c.run_statements.ensures.runs
+    statements_ran c.args.words.now _ _ _ _ _ c.in-Ok-Runs.statements c.run_statements.result c.new-root.result (search rules) (rw c.in-Ok-Runs.field-0-is at c.in-Ok-Runs.ensures.due) c.run_statements.ensures.runs
 
 pub returns-in-Ok-Ends-clause-reads : goal.returns-in-Ok-Ends-clause-reads
 returns-in-Ok-Ends-clause-reads g c =

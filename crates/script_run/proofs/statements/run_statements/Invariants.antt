@@ -12,5 +12,5 @@ invariant-loop-statement g l =
       faults : g.S.Store.faults l.store ≡ g.S.Store.faults l.fn.store;
       draws : g.N.NameSource.faults l.names ≡ g.N.NameSource.faults l.fn.names;
       sink : g.K.Sink.faults l.out ≡ g.K.Sink.faults l.fn.out;
-      accepted : AreAccepted l.statement-items l.statement-index old now (g.K.Sink.written l.fn.out) (g.K.Sink.written l.out);
+      accepted : AreAccepted l.fn.root l.statement-items l.statement-index old now (g.K.Sink.written l.fn.out) (g.K.Sink.written l.out);
     }

@@ -1,0 +1,4 @@
+mod Each
+mod Prefix
+mod Whole
+mod Exact
