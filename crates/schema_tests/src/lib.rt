@@ -2,6 +2,8 @@
 #![tactic(auto)]
 
 #[cfg(test)]
+mod identities;
+#[cfg(test)]
 mod mapping;
 #[cfg(test)]
 mod row_ids;
