@@ -1,6 +1,5 @@
 // The next values of an identity column.
-ghost use Rattle.std.specs.Prelude.{◌≡◌, ◌≢◌, ◌↔◌, ◌<◌, ◌+◌, ◌/◌, ◌^◌, pos, ◌≤ℤ◌, ◌+ℤ◌, ◌*ℤ◌, Bool, FitsSigned, SomeIff, All, Err, IfOk, IsTrue};
-ghost use Rattle.std.specs.Int.{w64};
+ghost use Rattle.std.specs.Prelude.{◌≡◌, ◌≢◌, ◌↔◌, ◌<◌, ◌+◌, ◌/◌, ◌^◌, pos, ◌≤ℤ◌, ◌+ℤ◌, ◌*ℤ◌, SomeIff, All, Err, IfOk, IsTrue};
 ghost use Rattle.identity_columns.specs.Values.{IsLong, first_place as first_place_of, is_beyond as is_beyond_of, next_values as next_values_of};
 
 use delta_schema::IdentityRule;

@@ -3,6 +3,7 @@ mod actions;
 mod features;
 mod loaded;
 mod names;
+mod needed;
 mod put;
 mod replayed;
 

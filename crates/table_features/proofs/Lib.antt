@@ -1,2 +1,3 @@
 mod Least
 mod Named
+mod Needs

@@ -1,1 +1,3 @@
 pub mod Features
+pub mod Properties
+pub mod Needed

@@ -1,7 +1,13 @@
-//! Which protocols of a table may be read and written (PROTOCOL.md, "Table Features").
+//! Which protocols of a table may be read and written, and which features a new table needs
+//! (PROTOCOL.md, "Table Features").
 #![tactic(auto)]
 
 mod checks;
 mod known;
+pub mod laws;
+mod needed;
+mod properties;
 
 pub use checks::{FeatureFault, check_read, check_write};
+pub use needed::needed_for;
+pub use properties::{is_true_in, text_under};
