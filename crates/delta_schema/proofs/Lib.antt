@@ -4,3 +4,6 @@ pub mod Others
 pub mod Collecting
 pub mod Naming
 pub mod WellFormed
+pub mod Onto
+pub mod Putting
+pub mod NoFloat

@@ -1,5 +1,5 @@
 -- The types of columns by their names (PROTOCOL.md, "Schema Serialization Format", "Primitive Types").
-use Rattle.std.specs.Prelude.{ℕ, ◌+◌, ◌-◌, ◌*◌, Bool, List, [], ◌∷◌, length, take, drop, Option, Some, None, option_map, codes, nat_le, not, ◌==◌, ◌&&◌, if◌then◌else◌}
+use Rattle.std.specs.Prelude.{ℕ, ◌+◌, ◌-◌, ◌*◌, Bool, List, [], ◌∷◌, ◌++◌, length, take, drop, Option, Some, None, option_map, codes, decimal, nat_le, not, ◌==◌, ◌&&◌, if◌then◌else◌}
 use Rattle.std.specs.List.{position}
 use Rattle.std.specs.Map.{lookup}
 use Rattle.std.specs.Option.{option_or}
@@ -9,18 +9,29 @@ use Rattle.dm_types.specs.Then.{◌>>=◌}
 use Rattle.dm_types.specs.declared.value.DataType.{DataType}
 use Rattle.dm_types.specs.declared.value.DataType.TheVariants as kind
 
+-- the name of a type; `void` is none that a column may have
+abbrev pub type_name : DataType → List ℕ
+type_name kind.Void = codes "void"
+type_name kind.Boolean = codes "boolean"
+type_name kind.Byte = codes "byte"
+type_name kind.Short = codes "short"
+type_name kind.Integer = codes "integer"
+type_name kind.Long = codes "long"
+type_name (kind.Decimal precision scale) =
+    codes "decimal(" ++ decimal precision ++ codes "," ++ decimal scale ++ codes ")"
+type_name kind.Str = codes "string"
+type_name kind.Binary = codes "binary"
+type_name kind.Date = codes "date"
+type_name kind.Timestamp = codes "timestamp"
+
+abbrev pub with_name : DataType → List ℕ × DataType
+with_name k = (type_name k, k)
+
 -- the types without parameters that a column may have
 abbrev pub plain_types : List (List ℕ × DataType)
 plain_types =
-    (codes "string", kind.Str) ∷
-    (codes "long", kind.Long) ∷
-    (codes "integer", kind.Integer) ∷
-    (codes "short", kind.Short) ∷
-    (codes "byte", kind.Byte) ∷
-    (codes "boolean", kind.Boolean) ∷
-    (codes "binary", kind.Binary) ∷
-    (codes "date", kind.Date) ∷
-    (codes "timestamp", kind.Timestamp) ∷ []
+    with_name kind.Str ∷ with_name kind.Long ∷ with_name kind.Integer ∷ with_name kind.Short ∷ with_name kind.Byte
+    ∷ with_name kind.Boolean ∷ with_name kind.Binary ∷ with_name kind.Date ∷ with_name kind.Timestamp ∷ []
 
 -- what stands behind this front
 abbrev pub behind : List ℕ → List ℕ → Option (List ℕ)

@@ -13,8 +13,8 @@ use dm_types::{Items, Text, TextPairs};
 use serde_json::{Map, Value};
 use std::alloc::{AllocError, Global};
 
-// Whether each number at any depth is kept as an integer, in the range of an i64.
-fn is_whole(value: &Value) -> bool
+/// Whether each number at any depth is kept as an integer, in the range of an i64.
+pub(crate) fn is_whole(value: &Value) -> bool
     ensures { result ≡ is_whole_data (view value.now) }
 {
     match value {

@@ -1,15 +1,15 @@
 // The types of columns, from their names.
-ghost use Rattle.std.specs.Prelude.{◌≡◌, ◌==◌, ◌<◌, length, option_map, IfSome};
+ghost use Rattle.std.specs.Prelude.{◌≡◌, ◌==◌, ◌<◌, length, option_map, IfOk, IfSome, string_bytes};
 ghost use Rattle.std.specs.List.{position};
 ghost use Rattle.serde_json.specs.View.{view};
 ghost use Rattle.delta_schema.specs.StepsReading.{Gives};
-ghost use Rattle.delta_schema.specs.Types.{small_number as small_number_of, decimal_type as decimal_type_of, parameters as parameters_of, halves as halves_of, decimal_of, kind_of, type_of};
+ghost use Rattle.delta_schema.specs.Types.{small_number as small_number_of, decimal_type as decimal_type_of, parameters as parameters_of, halves as halves_of, decimal_of, kind_of, type_name as name_of, type_of};
 
 use crate::fault::Fault;
 use crate::members::Form;
 use dm_types::{DataType, MAX_PRECISION};
 use serde_json::Value;
-use std::alloc::Global;
+use std::alloc::{AllocError, Global};
 
 // A number of one or two digits, with no zero before them.
 fn small_number(digits: &[u8]) -> Option<u8>
@@ -82,6 +82,28 @@ pub(crate) fn kind(name: &str) -> Option<DataType>
         "timestamp" => Some(DataType::Timestamp),
         _ => decimal(name.as_bytes()),
     }
+}
+
+/// The name of this type.
+pub(crate) fn type_name(alloc: Global, kind: DataType) -> Result<String, AllocError>
+    ensures { IfOk result (λ name. string_bytes name ≡ name_of kind) }
+{
+    let name = match kind {
+        DataType::Decimal { precision, scale } => {
+            return format!(in alloc; "decimal({precision},{scale})");
+        }
+        DataType::Void => "void",
+        DataType::Boolean => "boolean",
+        DataType::Byte => "byte",
+        DataType::Short => "short",
+        DataType::Integer => "integer",
+        DataType::Long => "long",
+        DataType::Str => "string",
+        DataType::Binary => "binary",
+        DataType::Date => "date",
+        DataType::Timestamp => "timestamp",
+    };
+    String::from_str(alloc, name)
 }
 
 /// None is a type that no column may have.

@@ -9,3 +9,5 @@ mod mapping;
 mod row_ids;
 #[cfg(test)]
 mod schemas;
+#[cfg(test)]
+mod written;
