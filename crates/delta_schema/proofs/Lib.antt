@@ -7,3 +7,6 @@ pub mod WellFormed
 pub mod Onto
 pub mod Putting
 pub mod NoFloat
+pub mod Getting
+pub mod Listed
+pub mod Spelling

@@ -4,6 +4,7 @@
 mod columns;
 mod fault;
 mod fields;
+pub mod laws;
 mod members;
 mod metadata;
 mod names;

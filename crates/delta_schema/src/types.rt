@@ -2,6 +2,7 @@
 ghost use Rattle.std.specs.Prelude.{◌≡◌, ◌==◌, ◌<◌, length, option_map, IfOk, IfSome, string_bytes};
 ghost use Rattle.std.specs.List.{position};
 ghost use Rattle.serde_json.specs.View.{view};
+ghost use Rattle.dm_types.specs.declared.value.DataType.TheVariants as type;
 ghost use Rattle.delta_schema.specs.StepsReading.{Gives};
 ghost use Rattle.delta_schema.specs.Types.{small_number as small_number_of, decimal_type as decimal_type_of, parameters as parameters_of, halves as halves_of, decimal_of, kind_of, type_name as name_of, type_of};
 
@@ -84,14 +85,19 @@ pub(crate) fn kind(name: &str) -> Option<DataType>
     }
 }
 
+fn decimal_name(alloc: Global, precision: u8, scale: u8) -> Result<String, AllocError>
+    ensures { IfOk result (λ name. string_bytes name ≡ name_of (type.Decimal precision scale)) }
+{
+    let name = format!(in alloc; "decimal({precision},{scale})")?;
+    Ok(name)
+}
+
 /// The name of this type.
 pub(crate) fn type_name(alloc: Global, kind: DataType) -> Result<String, AllocError>
     ensures { IfOk result (λ name. string_bytes name ≡ name_of kind) }
 {
     let name = match kind {
-        DataType::Decimal { precision, scale } => {
-            return format!(in alloc; "decimal({precision},{scale})");
-        }
+        DataType::Decimal { precision, scale } => return decimal_name(alloc, precision, scale),
         DataType::Void => "void",
         DataType::Boolean => "boolean",
         DataType::Byte => "byte",

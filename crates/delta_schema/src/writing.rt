@@ -1,5 +1,5 @@
 // Writing a schema.
-ghost use Rattle.std.specs.Prelude.{◌≡◌, ◌++◌, IfOk, OnOk, false, map, option_map, decimal, codes};
+ghost use Rattle.std.specs.Prelude.{◌≡◌, IfOk, OnOk, Some, false, map, option_map, codes};
 ghost use Rattle.serde_json.specs.Data.{object, no_members, string, boolean};
 ghost use Rattle.serde_json.specs.View.{view, items_view, members_view, items_of};
 ghost use Rattle.serde_json.specs.Written.{compact_text, has_float};
@@ -61,6 +61,18 @@ fn put_id(members: &mut Object, alloc: Global, id: Option<i32>) -> Result<(), Al
     }
 }
 
+fn put_members(members: &mut Object, alloc: Global, rule: IdentityRule) -> Result<(), AllocError>
+    ensures { OnOk result (members_view members.new.entries
+        ≡ members_onto (members_view members.old.entries) (rule_fields (Some rule))) }
+{
+    put_whole(members, alloc, "delta.identity.start", Some(rule.start))?;
+    put_whole(members, alloc, "delta.identity.step", Some(rule.step))?;
+    put_whole(members, alloc, "delta.identity.highWaterMark", rule.mark)?;
+    let name = "delta.identity.allowExplicitInsert";
+    serde_json::put(members, alloc, name, Value::Bool(rule.explicit))?;
+    Ok(())
+}
+
 fn put_rule(
     members: &mut Object,
     alloc: Global,
@@ -69,19 +81,10 @@ fn put_rule(
     ensures { OnOk result (members_view members.new.entries
         ≡ members_onto (members_view members.old.entries) (rule_fields identity)) }
 {
-    let Some(rule) = identity else {
-        return Ok(());
-    };
-    let explicit = Value::Bool(rule.explicit);
-    put_whole(members, alloc, "delta.identity.start", Some(rule.start))?;
-    put_whole(members, alloc, "delta.identity.step", Some(rule.step))?;
-    put_whole(members, alloc, "delta.identity.highWaterMark", rule.mark)?;
-    serde_json::put(
-        members,
-        alloc,
-        "delta.identity.allowExplicitInsert",
-        explicit,
-    )
+    match identity {
+        Some(rule) => put_members(members, alloc, rule),
+        None => Ok(()),
+    }
 }
 
 // The members that say how the column is used.
@@ -98,7 +101,8 @@ fn put_own(members: &mut Object, alloc: Global, column: &ColumnDef) -> Result<()
     )?;
     put_id(members, alloc, column.id)?;
     put_text(members, alloc, "delta.columnMapping.physicalName", physical)?;
-    put_rule(members, alloc, column.identity)
+    put_rule(members, alloc, column.identity)?;
+    Ok(())
 }
 
 // The value that a text is, where its numbers are whole.
@@ -139,7 +143,6 @@ fn other_members(alloc: Global, others: &[(Text, Text)]) -> Result<Object, Alloc
     Ok(members)
 }
 
-#[tactic(auto, using(crate::proofs::Onto::onto_both))]
 fn metadata(alloc: Global, column: &ColumnDef) -> Result<Value, AllocError>
     ensures { IfOk result (λ value. view value ≡ metadata_data column.now) }
 {
