@@ -10,3 +10,4 @@ pub mod NoFloat
 pub mod Getting
 pub mod Listed
 pub mod Spelling
+pub mod Back

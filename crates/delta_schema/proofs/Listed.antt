@@ -40,7 +40,7 @@ mutual
 
   members_within : (n m : ℕ) (ms : Members) → n ≤ m → ArePlain n ms → ArePlain m ms
   members_within n m no_members more h = tt
-  members_within n m (member k d ms) more h = (plain_within n m d more h.0, (h.1, members_within n m ms more h.2))
+  members_within n m (member k d ms) more h = (plain_within n m d more h.0, h.1, members_within n m ms more h.2)
 
 -- the value of a member's text
 pub value_of : (text : List ℕ) (d : Data) → text ≡ compact_text d → is_whole d ≡ true → IsPlain 123 d → whole_value text ≡ Some d
@@ -97,7 +97,7 @@ others_by : (o : Ordering) (i : Bool) (k l : List ℕ) (d e : Data) (ms : Member
 others_by Less i k l d e ms is kept later = rw kept refl
 others_by Equal i k l d e ms is kept later =
     let kept_l : is_kept i l ≡ true = subst (λ (x : List ℕ). is_kept i x ≡ true) (same_name k l is) kept in
-    rw (kept_l, kept_l) refl
+    rw kept_l refl
 others_by Greater i k l d e ms is kept later = ap (λ rest. cond (is_kept i l) rest ((l, compact_text e) ∷ rest)) later
 
 others-put : (i : Bool) (k : List ℕ) (d : Data) (ms : Members) → is_kept i k ≡ true → other_members i (put k d ms) ≡ other_members i ms

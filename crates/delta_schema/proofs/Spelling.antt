@@ -63,7 +63,7 @@ decimal_by (a ∷ b ∷ c ∷ more) ss p s first second = absurd (let none = fir
 decimal_by ps (a ∷ b ∷ c ∷ more) p s first second = absurd (let none = second.number in cc)
 
 decimal_back : (p s : ℕ) → IsWellFormed (kind.Decimal p s) → decimal_type p s ≡ Some (kind.Decimal p s)
-decimal_back p s h = rw (le-leb 1 p h.0, le-leb p 38 h.1.0, le-leb s p h.1.1) refl
+decimal_back p s h = rw (le-leb 1 p h.0, le-leb p 38 h.1, le-leb s p h.2) refl
 
 -- a type by its name
 pub type_back : (k : DataType) → IsColumnType k → kind_of (type_name k) ≡ Some k
@@ -75,7 +75,7 @@ type_back kind.Short h = refl
 type_back kind.Integer h = refl
 type_back kind.Long h = refl
 type_back (kind.Decimal p s) h =
-    decimal_by (decimal p) (decimal s) p s (spells p (omega (arith, h.1.0))) (spells s (omega (arith, h.1.0, h.1.1))) ∙ decimal_back p s h
+    decimal_by (decimal p) (decimal s) p s (spells p (omega (arith, h.1))) (spells s (omega (arith, h.1, h.2))) ∙ decimal_back p s h
 type_back kind.Str h = refl
 type_back kind.Binary h = refl
 type_back kind.Date h = refl

@@ -64,7 +64,7 @@ pub record IsWritable (columns : List ColumnDef) : Type 0 where
   pub named : list_any is_empty (column_names columns) ≡ false
   pub distinct : has_twins (column_names columns) ≡ false
   pub kept : list_all (λ column. column.partition) columns ≡ false
-  pub columns : All IsWritableColumn columns
+  pub each : All IsWritableColumn columns
 
 -- these are the names of the partition columns, in any order and each any number of times
 pub record ArePartitions (partitions : List (List ℕ)) (columns : List ColumnDef) : Type 0 where
