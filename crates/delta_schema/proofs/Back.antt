@@ -288,7 +288,7 @@ unfolding typed
 typed_back front [] = ap Ok (sym (append-nil front))
 typed_back front (c ∷ cs) = typed_back (front ++ c ∷ []) cs ∙ ap Ok (append_assoc front (c ∷ []) cs)
 
-flags_back : (partitions : List (List ℕ)) (cs : List ColumnDef) → AllByRecursion (λ c. is_among partitions c.name ≡ c.partition) cs
+pub flags_back : (partitions : List (List ℕ)) (cs : List ColumnDef) → AllByRecursion (λ c. is_among partitions c.name ≡ c.partition) cs
     → list_all (is_among partitions) (column_names cs) ≡ list_all (λ c. c.partition) cs
 flags_back partitions [] h = refl
 flags_back partitions (c ∷ cs) h = rw (h.0, flags_back partitions cs h.1) refl

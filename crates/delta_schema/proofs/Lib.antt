@@ -11,3 +11,5 @@ pub mod Getting
 pub mod Listed
 pub mod Spelling
 pub mod Back
+pub mod Fit
+pub mod Again

@@ -20,6 +20,7 @@ use Rattle.delta_schema.specs.Columns.{answer, column_of, column_with, columns_o
 use Rattle.delta_schema.specs.Metadata.{generation_name, id_name, id_of, identity_of, invariant_name, kept, metadata_of, others_of, physical_name}
 use Rattle.delta_schema.specs.Names.{are_good_names, is_among}
 use Rattle.delta_schema.specs.Types.{decimal_of, decimal_type, halves, kind_of, parameters, plain_types, small_number, type_of}
+use Rattle.delta_schema.specs.Writable.{IsColumnType}
 use Rattle.delta_schema.specs.declared.fault.SchemaFault.{SchemaFault}
 use Rattle.delta_schema.specs.declared.fault.SchemaFault.TheVariants as fault
 use Rattle.delta_schema.specs.declared.schema.ColumnDef.{ColumnDef}
@@ -32,41 +33,54 @@ through P (Some a) step each b is = each a refl b is
 
 -- ---- a type by its name
 
-decimal_formed : (precision scale : ℕ) (good : Bool) → (good ≡ true → IsWellFormed (kind.Decimal precision scale)) → (k : DataType) → cond good (Some (kind.Decimal precision scale)) None ≡ Some k → IsWellFormed k
-decimal_formed precision scale true formed k is = let same : kind.Decimal precision scale ≡ k = cc in subst IsWellFormed same (formed refl)
+decimal_formed : (precision scale : ℕ) (good : Bool) → (good ≡ true → IsColumnType (kind.Decimal precision scale)) → (k : DataType) → cond good (Some (kind.Decimal precision scale)) None ≡ Some k → IsColumnType k
+decimal_formed precision scale true formed k is = let same : kind.Decimal precision scale ≡ k = cc in subst IsColumnType same (formed refl)
 decimal_formed precision scale false formed k is = absurd cc
 
-decimal_type_formed : (precision scale : ℕ) (k : DataType) → decimal_type precision scale ≡ Some k → IsWellFormed k
+decimal_type_formed : (precision scale : ℕ) (k : DataType) → decimal_type precision scale ≡ Some k → IsColumnType k
 decimal_type_formed precision scale k is = decimal_formed precision scale (nat_le 1 precision && nat_le precision 38 && nat_le scale precision) formed k is
   where
-    formed : (nat_le 1 precision && nat_le precision 38 && nat_le scale precision) ≡ true → IsWellFormed (kind.Decimal precision scale)
+    formed : (nat_le 1 precision && nat_le precision 38 && nat_le scale precision) ≡ true → IsColumnType (kind.Decimal precision scale)
     formed good =
         let parts = and_parts (nat_le 1 precision && nat_le precision 38) (nat_le scale precision) good in
         let front = and_parts (nat_le 1 precision) (nat_le precision 38) parts.0 in
         (leb-true 1 precision front.0, leb-true precision 38 front.1, leb-true scale precision parts.1)
 
-decimal_of_formed : (text : List ℕ) (k : DataType) → decimal_of text ≡ Some k → IsWellFormed k
+decimal_of_formed : (text : List ℕ) (k : DataType) → decimal_of text ≡ Some k → IsColumnType k
 decimal_of_formed text =
-    through IsWellFormed (parameters text) (λ inner. halves inner >>= λ parts. small_number parts.0 >>= λ precision. small_number parts.1 >>= λ scale. decimal_type precision scale) (λ inner _.
-    through IsWellFormed (halves inner) (λ parts. small_number parts.0 >>= λ precision. small_number parts.1 >>= λ scale. decimal_type precision scale) (λ parts _.
-    through IsWellFormed (small_number parts.0) (λ precision. small_number parts.1 >>= λ scale. decimal_type precision scale) (λ precision _.
-    through IsWellFormed (small_number parts.1) (decimal_type precision) (λ scale _. decimal_type_formed precision scale))))
+    through IsColumnType (parameters text) (λ inner. halves inner >>= λ parts. small_number parts.0 >>= λ precision. small_number parts.1 >>= λ scale. decimal_type precision scale) (λ inner _.
+    through IsColumnType (halves inner) (λ parts. small_number parts.0 >>= λ precision. small_number parts.1 >>= λ scale. decimal_type precision scale) (λ parts _.
+    through IsColumnType (small_number parts.0) (λ precision. small_number parts.1 >>= λ scale. decimal_type precision scale) (λ precision _.
+    through IsColumnType (small_number parts.1) (decimal_type precision) (λ scale _. decimal_type_formed precision scale))))
 
-plain_formed : (test : List ℕ → Bool) (types : List (List ℕ × DataType)) → AllByRecursion (λ (type : List ℕ × DataType). IsWellFormed type.1) types → (k : DataType) → lookup test types ≡ Some k → IsWellFormed k
+plain_formed : (test : List ℕ → Bool) (types : List (List ℕ × DataType)) → AllByRecursion (λ (type : List ℕ × DataType). IsColumnType type.1) types → (k : DataType) → lookup test types ≡ Some k → IsColumnType k
 plain_formed test [] all k is = absurd cc
 plain_formed test (type ∷ types) all k is = by (test type.0) (plain_formed test types all.1 k) is
   where
-    by : (found : Bool) → (lookup test types ≡ Some k → IsWellFormed k) → cond found (Some type.1) (lookup test types) ≡ Some k → IsWellFormed k
-    by true later here = let same : type.1 ≡ k = cc in subst IsWellFormed same all.0
+    by : (found : Bool) → (lookup test types ≡ Some k → IsColumnType k) → cond found (Some type.1) (lookup test types) ≡ Some k → IsColumnType k
+    by true later here = let same : type.1 ≡ k = cc in subst IsColumnType same all.0
     by false later there = later there
 
-either_formed : (first second : Option DataType) → ((k : DataType) → first ≡ Some k → IsWellFormed k) → ((k : DataType) → second ≡ Some k → IsWellFormed k) → (k : DataType) → option_or first second ≡ Some k → IsWellFormed k
+either_formed : (first second : Option DataType) → ((k : DataType) → first ≡ Some k → IsColumnType k) → ((k : DataType) → second ≡ Some k → IsColumnType k) → (k : DataType) → option_or first second ≡ Some k → IsColumnType k
 either_formed None second one other k is = other k is
 either_formed (Some first) second one other k is = one k is
 
-kind_formed : (text : List ℕ) (k : DataType) → kind_of text ≡ Some k → IsWellFormed k
+pub kind_formed : (text : List ℕ) (k : DataType) → kind_of text ≡ Some k → IsColumnType k
 unfolding kind_of
 kind_formed text = either_formed (lookup (bytes_eq text) plain_types) (decimal_of text) (plain_formed (bytes_eq text) plain_types (tt, (tt, (tt, (tt, (tt, (tt, (tt, (tt, (tt, tt)))))))))) (decimal_of_formed text)
+
+type_well_formed : (k : DataType) → IsColumnType k → IsWellFormed k
+type_well_formed kind.Void h = absurd h
+type_well_formed kind.Boolean h = tt
+type_well_formed kind.Byte h = tt
+type_well_formed kind.Short h = tt
+type_well_formed kind.Integer h = tt
+type_well_formed kind.Long h = tt
+type_well_formed (kind.Decimal precision scale) h = h
+type_well_formed kind.Str h = tt
+type_well_formed kind.Binary h = tt
+type_well_formed kind.Date h = tt
+type_well_formed kind.Timestamp h = tt
 
 -- a type that a column may have is well formed
 type_formed : (d : Data) (type : Option DataType) → type_of d ≡ Some type → IfSome type IsWellFormed
@@ -74,7 +88,7 @@ type_formed null type is = absurd cc
 type_formed (boolean b) type is = absurd cc
 type_formed (number n) type is = absurd cc
 type_formed (string s) None is = tt
-type_formed (string s) (Some k) is = kind_formed s k (cc)
+type_formed (string s) (Some k) is = type_well_formed k (kind_formed s k (cc))
 type_formed (array ds) type is = absurd cc
 type_formed (object ms) None is = tt
 type_formed (object ms) (Some k) is = absurd cc
