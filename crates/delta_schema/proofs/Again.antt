@@ -1,6 +1,6 @@
 -- What was read of a schema can be written.
-use Rattle.std.proofs.Common.{◌≡◌, ℕ, ℤ, pos, negsuc, ◌-◌, ◌<◌, ◌^◌, ◌≤◌, List, [], ◌∷◌, ◌++◌, map, length, Bool, true, false, ◌&&◌, not, is_some, cond, Option, Some, None, option_map, option_and_then, Result, Ok, Err, Ordering, Less, Equal, Greater, nat_cmp, true≢false, refl, sym, ap, ◌∙◌, subst, arith, append_assoc, append-nil, bytes_eq}
-use Rattle.std.specs.Prelude.{⊤, IfSome, codes, unwrap_or, nat_lt, nat_le, int_le}
+use Rattle.std.proofs.Common.{◌≡◌, ℕ, ℤ, pos, negsuc, ◌-◌, ◌^◌, List, [], ◌∷◌, ◌++◌, map, length, Bool, true, false, ◌&&◌, not, is_some, cond, Option, Some, None, option_map, option_and_then, Result, Ok, Err, Ordering, Less, Equal, Greater, nat_cmp, true≢false, refl, sym, ap, ◌∙◌, subst, arith, append_assoc, append-nil, bytes_eq}
+use Rattle.std.specs.Prelude.{IfSome, codes, unwrap_or, nat_lt, nat_le, int_le}
 use Rattle.std.specs.List.{All, AllByRecursion, list_all, list_any}
 use Rattle.std.specs.List.Sorted.{IsStrictlySortedBy}
 use Rattle.std.specs.Map.{keys_of}
@@ -9,7 +9,7 @@ use Rattle.std.specs.Cmp.Lexicographic.{slice_cmp}
 use Rattle.std.proofs.lemmas.Bool.{and_parts, leb-true, ltb-true}
 use Rattle.std.proofs.lemmas.List.Elements.{All-cons, All-head, All-nil, All-tail}
 use Rattle.serde_json.specs.Data.{Data, null, boolean, number, unsigned, negative, float, string, array, object, Items, no_items, item, Members, no_members, member}
-use Rattle.serde_json.specs.Find.{as_array, as_bool, as_i64, as_object, as_str, get, get_member}
+use Rattle.serde_json.specs.Find.{as_array, as_bool, as_object, as_str, get, get_member}
 use Rattle.serde_json.specs.Read.{read}
 use Rattle.serde_json.specs.Written.{compact_text}
 use Rattle.json_text.specs.Plain.{IsAbove}
@@ -17,19 +17,18 @@ use Rattle.dm_types.specs.declared.value.DataType.{DataType}
 use Rattle.dm_types.specs.declared.value.DataType.TheVariants as kind
 use Rattle.delta_actions.specs.Forms.{each_item, maybe, needed, present, unless_null, whole}
 use Rattle.delta_actions.specs.Writable.{AreOrdered}
-use Rattle.delta_actions.specs.Written.{members_onto, object_of}
+use Rattle.delta_actions.specs.Written.{object_of}
 use Rattle.delta_schema.specs.declared.schema.ColumnDef.{ColumnDef}
 use Rattle.delta_schema.specs.declared.schema.IdentityRule.{IdentityRule}
-use Rattle.delta_schema.specs.declared.fault.SchemaFault.{SchemaFault}
 use Rattle.delta_schema.specs.declared.fault.SchemaFault.TheVariants as fault
 use Rattle.delta_schema.specs.Columns.{answer, column_of, column_with, columns_of, described, fields_of, is_misplaced, names_of, of_types, schema_of, struct_columns, typed}
 use Rattle.delta_schema.specs.Metadata.{are_whole_members, explicit_name, generation_name, id_name, id_of, identity_of, invariant_name, is_kept, is_whole, is_zero, kept, mark_name, metadata_of, other_members, others_of, physical_name, rule_of, start_name, step_name}
 use Rattle.delta_schema.specs.Names.{are_good_names, has_twins, is_among, is_empty}
-use Rattle.delta_schema.specs.Types.{kind_of, type_of}
+use Rattle.delta_schema.specs.Types.{type_of}
 use Rattle.delta_schema.specs.Writable.{ArePartitions, IsColumnType, IsOfBits, IsOther, IsRule, IsWritable, IsWritableColumn, column_names}
 use Rattle.delta_schema.specs.Written.{other_fields}
 use Rattle.delta_schema.proofs.Back.{flags_back}
-use Rattle.delta_schema.proofs.Fit.{AreFit, AreFitItems, IsFit, IsKnown, fit_plain, fit_read, get_fit, get_fit_member}
+use Rattle.delta_schema.proofs.Fit.{AreFit, AreFitItems, IsFit, fit_plain, fit_read, get_fit, get_fit_member}
 use Rattle.delta_schema.proofs.Listed.{listed, others_listed, same_name, value_of}
 use Rattle.delta_schema.proofs.WellFormed.{kind_formed}
 

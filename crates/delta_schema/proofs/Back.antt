@@ -1,12 +1,12 @@
 -- What is written for a schema is read as that schema.
-use Rattle.std.proofs.Common.{◌≡◌, ℕ, ℤ, pos, negsuc, ◌-◌, ◌<◌, ◌^◌, ◌≤◌, List, [], ◌∷◌, ◌++◌, map, length, Bool, true, false, ◌&&◌, ◌||◌, not, is_some, cond, Option, Some, None, option_map, option_and_then, Ok, Err, bytes_eq, refl, sym, ap, ◌∙◌, subst, arith, lt-ltb, le-leb, append-nil, append_assoc, Ordering, Less, Equal, Greater, nat_cmp}
+use Rattle.std.proofs.Common.{◌≡◌, ℕ, ℤ, pos, negsuc, ◌-◌, ◌<◌, ◌^◌, List, [], ◌∷◌, ◌++◌, map, length, Bool, true, false, is_some, cond, Option, Some, None, option_map, option_and_then, Ok, Err, bytes_eq, refl, sym, ap, ◌∙◌, subst, arith, lt-ltb, le-leb, append-nil, append_assoc, Ordering, Less, Equal, Greater, nat_cmp}
 use Rattle.std.specs.Ordering.{match_ordering}
 use Rattle.std.specs.Cmp.Lexicographic.{slice_cmp}
-use Rattle.std.specs.Prelude.{⊤, IfSome, codes, unwrap_or, Result, nat_le}
-use Rattle.std.specs.List.{All, AllByRecursion, list_all, list_any}
-use Rattle.std.proofs.lemmas.Bool.{and_from, and_parts}
+use Rattle.std.specs.Prelude.{IfSome, codes, nat_le}
+use Rattle.std.specs.List.{All, AllByRecursion, list_all}
+use Rattle.std.proofs.lemmas.Bool.{and_parts}
 use Rattle.std.proofs.lemmas.List.Elements.{All-head, All-tail}
-use Rattle.serde_json.specs.Data.{Data, boolean, number, string, array, object, Items, no_items, item, Members, no_members, member, put}
+use Rattle.serde_json.specs.Data.{Data, string, object, Items, item, Members, no_members, member, put}
 use Rattle.serde_json.specs.Find.{as_array, as_bool, as_str, get, get_member}
 use Rattle.serde_json.specs.Read.{read}
 use Rattle.serde_json.specs.View.{items_of}
@@ -14,18 +14,18 @@ use Rattle.serde_json.specs.Written.{compact_text}
 use Rattle.json_text.specs.Plain.{ArePlain, ArePlainItems, IsPlain}
 use Rattle.json_text.proofs.Plain.{ArePlain-put, read-compact_text}
 use Rattle.delta_actions.specs.Forms.{each_item, maybe, needed, present, unless_null, whole}
-use Rattle.delta_actions.specs.Written.{Fields, integer, members_onto, object_of, put_some}
+use Rattle.delta_actions.specs.Written.{Fields, integer, members_onto, object_of}
 use Rattle.delta_schema.specs.declared.schema.ColumnDef.{ColumnDef}
 use Rattle.delta_schema.specs.declared.schema.IdentityRule.{IdentityRule}
 use Rattle.delta_schema.specs.declared.fault.SchemaFault.TheVariants as fault
-use Rattle.delta_schema.specs.Columns.{answer, of_types, is_misplaced, columns_of, column_of, column_with, described, fields_of, names_of, schema_of, struct_columns, typed}
+use Rattle.delta_schema.specs.Columns.{answer, of_types, is_misplaced, column_of, column_with, described, fields_of, names_of, schema_of, struct_columns, typed}
 use Rattle.delta_schema.specs.Metadata.{explicit_name, generation_name, id_name, id_of, identity_of, invariant_name, is_kept, is_whole, kept, mark_name, metadata_of, are_whole_members, other_members, others_of, physical_name, start_name, step_name}
-use Rattle.delta_schema.specs.Names.{are_good_names, has_twins, is_among, is_empty}
-use Rattle.delta_schema.specs.Types.{type_name, type_of}
+use Rattle.delta_schema.specs.Names.{are_good_names, is_among}
+use Rattle.delta_schema.specs.Types.{type_of}
 use Rattle.delta_schema.specs.Writable.{ArePartitions, IsOfBits, IsOther, IsRule, IsWritable, IsWritableColumn, column_names}
 use Rattle.delta_schema.specs.Written.{field_data, field_fields, metadata_data, other_fields, own_fields, rule_fields, schema_data, schema_fields}
 use Rattle.delta_schema.proofs.Getting.{found, get-object, get-onto, needed-object, pick}
-use Rattle.delta_schema.proofs.Listed.{AreKept, value_of, get_none, listed, others-onto, others_back, others_listed}
+use Rattle.delta_schema.proofs.Listed.{AreKept, value_of, get_none, others-onto, others_back, others_listed}
 use Rattle.delta_schema.proofs.Onto.{onto_both}
 use Rattle.delta_schema.proofs.Putting.{HaveFields, fields_keep, have_both}
 use Rattle.delta_schema.proofs.Spelling.{type_back}

@@ -1,16 +1,16 @@
 -- What is written for a schema has no float.
 use Rattle.std.proofs.Common.{◌≡◌, List, [], ◌∷◌, ◌++◌, map, ℕ, ℤ, pos, negsuc, Bool, true, false, cond, Option, Some, None, option_map, option_and_then, refl}
-use Rattle.std.specs.Prelude.{⊤, IfSome}
-use Rattle.serde_json.specs.Data.{Data, string, Members, no_members}
+use Rattle.std.specs.Prelude.{IfSome}
+use Rattle.serde_json.specs.Data.{Data, string, no_members}
 use Rattle.serde_json.specs.Read.{read}
 use Rattle.serde_json.specs.View.{items_of}
 use Rattle.serde_json.specs.Written.{has_float, items_have_float, members_have_float}
 use Rattle.json_text.proofs.Plain.{no_float-put}
-use Rattle.delta_actions.specs.Written.{Fields, integer, members_onto, object_of, put_some}
+use Rattle.delta_actions.specs.Written.{Fields, integer, object_of}
 use Rattle.delta_schema.specs.declared.schema.ColumnDef.{ColumnDef}
 use Rattle.delta_schema.specs.declared.schema.IdentityRule.{IdentityRule}
 use Rattle.delta_schema.specs.Metadata.{is_whole}
-use Rattle.delta_schema.specs.Written.{field_data, field_fields, metadata_data, other_fields, own_fields, rule_fields, schema_data, schema_fields, whole_value}
+use Rattle.delta_schema.specs.Written.{field_data, field_fields, metadata_data, other_fields, own_fields, rule_fields, schema_data, schema_fields}
 use Rattle.delta_schema.proofs.Putting.{HaveFields, fields_keep, have_both}
 use Rattle.delta_schema.proofs.Whole.{no_float}
 

@@ -1,5 +1,5 @@
 -- The schemas that are read back from what is written for them, and the partition columns that they are read with.
-use Rattle.std.specs.Prelude.{◌≡◌, ⊤, ◌≤◌, ◌<◌, ◌-◌, ◌^◌, ℕ, ℤ, pos, negsuc, List, map, length, Bool, false, true, is_some, IfSome, Some, None}
+use Rattle.std.specs.Prelude.{◌≡◌, ◌≤◌, ◌<◌, ◌-◌, ◌^◌, ℕ, ℤ, pos, negsuc, List, map, length, Bool, false, true, is_some, IfSome, Some, None}
 use Rattle.std.specs.List.{All, list_all, list_any}
 use Rattle.serde_json.specs.Data.{Data}
 use Rattle.serde_json.specs.Written.{compact_text}

@@ -1,4 +1,4 @@
-use Rattle.std.proofs.Common.{◌≡◌, sym, ap, ◌∙◌}
+use Rattle.std.proofs.Common.{sym, ap, ◌∙◌}
 use Rattle.serde_json.specs.Data.{object, no_members}
 use Rattle.serde_json.proofs.Views.{view-Object}
 use Rattle.delta_actions.specs.Written.{members_onto}
