@@ -6,9 +6,9 @@ use Rattle.dm_store.specs.Files.{Files, lookup}
 use Rattle.dm_types.specs.Then.{go}
 use Rattle.dm_types.specs.declared.refusal.TableRefusal.{TableRefusal}
 use Rattle.log_replay.specs.declared.commits.Commit.{Commit}
-use Rattle.table_log.specs.Agree.{FrameNext, FrameUnseen, said_at}
+use Rattle.table_log.specs.Agree.{FrameFirst, FrameNext, FrameUnseen, said_at}
 use Rattle.table_log.specs.Log.{log_of}
-use Rattle.table_load.specs.Agree.{HeldBesideNext, HeldByUnseen, HeldElsewhere, HeldStays}
+use Rattle.table_load.specs.Agree.{HeldBesideFirst, HeldBesideNext, HeldByUnseen, HeldElsewhere, HeldStays}
 use Rattle.table_load.specs.Files.{Look, live_files}
 use Rattle.table_load.specs.Head.{head_at, head_of}
 use Rattle.table_load.specs.Held.{TableState, held, held_at, opened, opened_at, sound_ids, state_of}
@@ -67,3 +67,6 @@ beside_next frame files more folder newest bytes unseen room was version other =
 
 pub elsewhere : FrameNext → HeldElsewhere
 elsewhere frame files more folder newest bytes unseen room was table version other = held_stays table version files _ ((frame files more folder newest bytes unseen room was).elsewhere table version other)
+
+pub beside_first : FrameFirst → HeldBesideFirst
+beside_first frame files more folder bytes unseen table version other = held_stays table version files _ (frame files more folder bytes unseen table version other)

@@ -38,3 +38,9 @@ HeldElsewhere = (files more : Files) (folder : List ℕ) (newest : ℕ) (bytes :
     → newest + 1 < MAX_COMMITS → newest_version (log_of folder files) ≡ Ok newest
     → (other : List ℕ) (version : ℕ) → other ≢ folder
     → HeldStays other version files (files ++ (more ++ (commit_path folder (newest + 1), bytes) ∷ []))
+
+-- unseen files, and behind them the commit file of a table's first version, change no version of another table
+abbrev pub HeldBesideFirst : Type 0
+HeldBesideFirst = (files more : Files) (folder : List ℕ) (bytes : List ℕ) → AreUnseen more
+    → (other : List ℕ) (version : ℕ) → other ≢ folder
+    → HeldStays other version files (files ++ (more ++ (commit_path folder 0, bytes) ∷ []))

@@ -1,14 +1,11 @@
 -- The properties of a table (PROTOCOL.md, "Change Metadata"), and what they switch on.
-use Rattle.std.specs.Prelude.{ℕ, List, Bool, Option, option_map, codes, find, unwrap_or, [], ◌&&◌}
+use Rattle.std.specs.Prelude.{ℕ, List, Bool, Option, codes, unwrap_or, [], ◌&&◌}
 use Rattle.std.specs.List.{list_any}
 use Rattle.std.specs.Str.{bytes_eq}
 use Rattle.delta_actions.specs.declared.action.MetadataAction.{MetadataAction}
 use Rattle.delta_actions.specs.declared.action.ProtocolAction.{ProtocolAction}
 use Rattle.log_replay.specs.declared.snapshot.Snapshot.{Snapshot}
-
--- one of these pairs has the name, and the value `true`
-abbrev pub is_true_in : List (List ℕ × List ℕ) → List ℕ → Bool
-is_true_in pairs name = list_any (λ pair. bytes_eq pair.0 name && bytes_eq pair.1 (codes "true")) pairs
+use Rattle.table_features.specs.Properties.{is_true_in, text_under}
 
 -- the property is `true`
 abbrev pub is_on_in : MetadataAction → List ℕ → Bool
@@ -19,8 +16,7 @@ is_on table name = is_on_in table.metadata name
 
 -- the text of a property, if the table has it
 abbrev pub property : Snapshot → List ℕ → Option (List ℕ)
-property table name =
-    option_map (λ pair. pair.1) (find (λ pair. bytes_eq pair.0 name) (unwrap_or table.metadata.configuration []))
+property table name = text_under (unwrap_or table.metadata.configuration []) name
 
 -- rows are tracked: the property is `true`, and the writer features list it (PROTOCOL.md, "Row Tracking")
 abbrev pub are_tracked : ProtocolAction → MetadataAction → Bool

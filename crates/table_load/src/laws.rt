@@ -2,10 +2,12 @@
 // added.
 ghost use Rattle.std.specs.Prelude.{◌≡◌, ℕ, List, Option, All, false, Ok};
 ghost use Rattle.dm_store.specs.Files.{Files};
-ghost use Rattle.table_load.specs.Agree.{HeldBesideNext, HeldByUnseen, HeldElsewhere};
+ghost use Rattle.table_load.specs.Agree.{HeldBesideFirst, HeldBesideNext, HeldByUnseen, HeldElsewhere};
 ghost use Rattle.table_load.specs.Held.{Opened, opened_at};
 
-use table_log::{next_version_stands_alone, unseen_files_change_nothing};
+use table_log::{
+    first_version_stands_alone, next_version_stands_alone, unseen_files_change_nothing,
+};
 
 /// A law: no live file of a table that is opened has a deletion vector.
 pub fn opened_files_are_plain()
@@ -28,4 +30,12 @@ pub fn next_version_keeps_states()
     ensures elsewhere { HeldElsewhere }
 {
     next_version_stands_alone();
+}
+
+/// A law: unseen files, and behind them the commit file of a table's first version, change no version of
+/// another table, but that a file that was missing may be there.
+pub fn first_version_keeps_states()
+    ensures { HeldBesideFirst }
+{
+    first_version_stands_alone();
 }

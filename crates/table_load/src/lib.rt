@@ -14,7 +14,10 @@ mod properties;
 
 pub use files::{FileRange, FileRanges};
 pub use head::{Head, load_head};
-pub use laws::{next_version_keeps_states, opened_files_are_plain, unseen_files_keep_states};
+pub use laws::{
+    first_version_keeps_states, next_version_keeps_states, opened_files_are_plain,
+    unseen_files_keep_states,
+};
 pub use loaded::{Loaded, Purpose, load_table};
 pub use log::load_log;
 pub use part::{PartView, columns_of, load_part};

@@ -6,12 +6,12 @@ use Rattle.std.proofs.lemmas.List.Elements.{filter_map-append}
 use Rattle.std.proofs.Math.Seq.{take-append_seam}
 use Rattle.dm_store.specs.Files.{Files}
 use Rattle.log_replay.specs.declared.numbers.TheConstants.{MAX_COMMITS}
-use Rattle.table_log.specs.Log.{Log, log_folder, commit_name, commit_path, version_at, with_bytes, log_of, digits_of_width}
+use Rattle.table_log.specs.Log.{Log, bytes_of, log_folder, commit_name, commit_path, version_at, with_bytes, log_of, digits_of_width}
 use Rattle.table_log.specs.Versions.{commits_at}
-use Rattle.table_log.specs.Agree.{AreUnseen, IsUnseen, FrameUnseen, FrameNext, SaysNext, NextIsAbsent}
+use Rattle.table_log.specs.Agree.{AreUnseen, IsUnseen, FrameUnseen, FrameNext, SaysNext, NextIsAbsent, FrameFirst, SaysFirst, FirstIsAbsent}
 use Rattle.table_log.proofs.Digits.{width-length}
 use Rattle.table_log.proofs.Found.{log-lookup}
-use Rattle.table_log.proofs.Next.{others_stay, next_says, next_absent}
+use Rattle.table_log.proofs.Next.{others_stay, next_says, next_absent, first_says}
 use Rattle.table_log.proofs.Spelling.{version_at-path, path-from_version}
 
 -- a commit file is of one table
@@ -93,3 +93,13 @@ says_next files more t newest bytes unseen room e = ap (commits_at (Some (newest
 
 pub next_is_absent : NextIsAbsent
 next_is_absent files t newest small e = sym (log-lookup t (newest + 1) files small) ∙ next_absent (log_of t files) newest e
+
+pub frame_first : FrameFirst
+frame_first files more t bytes unseen u v other = ap (commits_at (Some v)) (other_log files more u t 0 bytes unseen other)
+
+pub says_first : SaysFirst
+says_first files more t bytes unseen none =
+    ap (commits_at (Some 0)) (next_log files more t 0 bytes unseen (omega arith) ∙ ap (λ (log : Log). log ++ (0, bytes) ∷ []) none) ∙ first_says bytes
+
+pub first_is_absent : FirstIsAbsent
+first_is_absent files t none = sym (log-lookup t 0 files (omega arith)) ∙ ap (bytes_of 0) none

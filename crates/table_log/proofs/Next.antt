@@ -154,3 +154,19 @@ pub next_says : (log : Log) (newest : ℕ) (bytes : List ℕ) → newest + 1 < M
 next_says log newest bytes room e =
     newest_said (log ++ (newest + 1, bytes) ∷ []) (newest + 1) (newest-push log newest bytes room e) ∙ next_said log newest bytes e
     ∙ ap (λ (r : Result (List Commit) TableRefusal). go r (λ commits. go (good_lines (newest + 1) (commit_of bytes)) (λ actions. Ok (commits ++ numbered (newest + 1) actions ∷ [])))) (sym (newest_said log newest e))
+
+-- a lone first version is the newest
+first_alone : newest_of (0 ∷ []) ≡ Ok 0
+unfolding newest_of gapless first_missing greatest
+first_alone =
+    let few : nat_lt MAX_COMMITS (count_of (0 ∷ [])) ≡ false = not_below MAX_COMMITS (count_of (0 ∷ [])) (omega (arith, count_within (0 ∷ []) (greatest (0 ∷ []) + 1))) in
+    rw few refl
+
+first_newest : (bytes : List ℕ) → newest_version ((0, bytes) ∷ []) ≡ Ok 0
+unfolding newest_version
+first_newest bytes = ap of_numbers first_alone
+
+-- it says its own commit
+pub first_says : (bytes : List ℕ) → commits_at (Some 0) ((0, bytes) ∷ []) ≡ go (good_lines 0 (commit_of bytes)) (λ actions. Ok (numbered 0 actions ∷ []))
+unfolding commits_at commits_below
+first_says bytes = rw (first_newest bytes) refl

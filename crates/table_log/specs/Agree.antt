@@ -58,3 +58,21 @@ SaysNext = (files more : Files) (table : List ℕ) (newest : ℕ) (bytes : List 
 abbrev pub NextIsAbsent : Type 0
 NextIsAbsent = (files : Files) (table : List ℕ) (newest : ℕ) → newest + 1 < 2 ^ 63
     → newest_version (log_of table files) ≡ Ok newest → lookup (commit_path table (newest + 1)) files ≡ None
+
+-- ---- the first version of a table
+
+-- unseen files, and behind them the commit file of a table's first version, change no other table
+abbrev pub FrameFirst : Type 0
+FrameFirst = (files more : Files) (table : List ℕ) (bytes : List ℕ) → AreUnseen more
+    → (other : List ℕ) (version : ℕ) → other ≢ table
+    → Stays other version files (files ++ (more ++ (commit_path table 0, bytes) ∷ []))
+
+-- where a table had no commit file, its first version then says the actions of the file
+abbrev pub SaysFirst : Type 0
+SaysFirst = (files more : Files) (table : List ℕ) (bytes : List ℕ) → AreUnseen more → log_of table files ≡ []
+    → said_at table 0 (files ++ (more ++ (commit_path table 0, bytes) ∷ []))
+    ≡ go (good_lines 0 (commit_of bytes)) (λ actions. Ok (numbered 0 actions ∷ []))
+
+-- a table without commit files has no first version yet
+abbrev pub FirstIsAbsent : Type 0
+FirstIsAbsent = (files : Files) (table : List ℕ) → log_of table files ≡ [] → lookup (commit_path table 0) files ≡ None

@@ -7,5 +7,8 @@ mod laws;
 mod paths;
 
 pub use files::{list_versions, read_version};
-pub use laws::{next_is_absent, next_version_stands_alone, says_next, unseen_files_change_nothing};
+pub use laws::{
+    first_is_absent, first_version_stands_alone, next_is_absent, next_version_stands_alone,
+    says_first, says_next, unseen_files_change_nothing,
+};
 pub use paths::{commit_path, log_folder, path_below, version_of};
