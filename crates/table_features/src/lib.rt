@@ -9,5 +9,5 @@ mod needed;
 mod properties;
 
 pub use checks::{FeatureFault, check_read, check_write};
-pub use needed::needed_for;
+pub use needed::{is_mapped, needed_for};
 pub use properties::{is_true_in, text_under};

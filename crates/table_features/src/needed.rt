@@ -69,8 +69,9 @@ fn has_checks(pairs: &[(Text, Text)]) -> bool
     pairs.iter().any(|pair| is_check(&pair.0))
 }
 
-// Whether data files hold the columns by physical names or ids.
-fn is_mapped(pairs: &[(Text, Text)]) -> bool
+/// Whether data files hold the columns by physical names or ids: the property
+/// `delta.columnMapping.mode` is `name` or `id` (PROTOCOL.md, "Column Mapping").
+pub fn is_mapped(pairs: &[(Text, Text)]) -> bool
     ensures { result ≡ is_mapped_of pairs.now }
 {
     match text_under(pairs, "delta.columnMapping.mode") {
