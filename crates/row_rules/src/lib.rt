@@ -14,3 +14,4 @@ pub use fault::RuleFault;
 pub use laws::reading_is_exact;
 pub use reading::read_rules;
 pub use rules::{CheckRule, CheckRules, ColumnRule, ColumnRules, Rules};
+pub use texts::{check_of, generation_of};

@@ -68,8 +68,11 @@ fn expression_of(alloc: Global, text: &Text) -> Result<Option<Expr>, AllocError>
     }
 }
 
-/// The tree of a generation expression that is assigned to a column of a type, if it has one.
-pub(crate) fn generation_of(
+/// The tree of the generation expression with this text, assigned to a column of a type. `None` is a
+/// text that is no expression, has no type over the columns of the scope, or can't be assigned.
+///
+/// The error is want of memory alone (PROTOCOL.md, "Generated Columns").
+pub fn generation_of(
     alloc: Global,
     scope: &Scope,
     kind: DataType,
@@ -83,12 +86,11 @@ pub(crate) fn generation_of(
     unless_broken(type_assignment(alloc, scope, &expr, &kind))
 }
 
-/// The tree of a CHECK, if it has one that is a condition.
-pub(crate) fn check_of(
-    alloc: Global,
-    scope: &Scope,
-    text: &Text,
-) -> Result<Option<TypedExpr>, AllocError>
+/// The tree of the CHECK with this text. `None` is a text that is no expression, has no type over the
+/// columns of the scope, or is neither BOOLEAN nor NULL.
+///
+/// The error is want of memory alone (PROTOCOL.md, "CHECK Constraints").
+pub fn check_of(alloc: Global, scope: &Scope, text: &Text) -> Result<Option<TypedExpr>, AllocError>
     ensures { IfOk result (λ tree. tree ≡ spec.check_of scope.now text.now) }
 {
     let Some(expr) = expression_of(alloc, text)? else {

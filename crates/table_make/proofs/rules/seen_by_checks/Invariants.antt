@@ -1,0 +1,7 @@
+use Rattle.std.proofs.Common.{◌≡◌, map, take}
+use Rattle.table_make.specs.Seen.{seen_by_checks}
+use Rattle.table_make.specs.Steps.{column_at}
+use Rattle.table_make.proofs.rules.seen_by_checks.Given as goal
+
+abbrev pub invariant-loop-column : goal.invariant-loop-column
+invariant-loop-column l = l.scope ≡ seen_by_checks (map column_at (take l.column-index l.columns))

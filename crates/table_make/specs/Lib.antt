@@ -1,0 +1,9 @@
+pub mod NewColumns
+pub mod NewProperties
+pub mod Created
+pub mod Good
+pub mod Elements
+pub mod Faults
+pub mod Seen
+pub mod Steps
+pub mod Making
