@@ -28,6 +28,7 @@ cp -r "$examples/sales" sales
 runs 'the example' "$(<"$examples/show.sql")" "$(<"$examples/show.expected")" 0
 runs 'the example of SELECT' "$(<"$examples/select.sql")" "$(<"$examples/select.expected")" 0
 runs 'the example of DELETE' "$(<"$examples/delete.sql")" "$(<"$examples/delete.expected")" 0
+runs 'the example of CREATE TABLE' "$(<"$examples/create.sql")" "$(<"$examples/create.expected")" 1
 runs 'rows of a version before a DELETE' 'SHOW ROWS sales VERSION AS OF 0;' "$(tail -n 6 "$examples/show.expected")" 0
 
 cp -r "$examples/sales" gone && rm gone/*east/*

@@ -1,4 +1,5 @@
 // Tokens, and trees.
+mod creates;
 mod selects;
 mod shown;
 mod tokens;

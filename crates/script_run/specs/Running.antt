@@ -9,6 +9,7 @@ use Rattle.sql_statements.specs.declared.Stmt.{Stmt}
 use Rattle.sql_statements.specs.declared.Stmt.TheVariants as stmt
 use Rattle.script_run.specs.declared.status.Status.{Status}
 use Rattle.script_run.specs.declared.status.Status.TheVariants as status
+use Rattle.table_write.specs.Create.{create_table}
 use Rattle.table_write.specs.Delete.{delete_from}
 use Rattle.script_run.specs.Outcome.{refused_line}
 use Rattle.table_write.specs.Outside.{Outside}
@@ -33,6 +34,8 @@ Answers root (stmt.ShowRows table version) old answer new =
     Tells old.files (show_rows (folder_of root table.text) version) answer × (new ≡ old)
 Answers root (stmt.Select items table version condition) old answer new =
     TellsAnswer old.files (select (folder_of root table.text) table.text version items condition) answer × (new ≡ old)
+Answers root (stmt.Create create) old answer new =
+    CarriesOut (create_table (folder_of root create.table.text) create) old answer new
 Answers root (stmt.Delete table) old answer new =
     CarriesOut (delete_from (folder_of root table.text)) old answer new
 

@@ -14,7 +14,7 @@ use std::alloc::{AllocError, Global};
 use std::sync::ledger::Ledger;
 use step_count::Steps;
 use table_log::path_below;
-use table_write::delete_from;
+use table_write::{create_table, delete_from};
 
 /// Runs a statement on the tables below a root, and returns its text.
 ///
@@ -64,6 +64,10 @@ pub fn run_statement<S: Store, C: Clock, N: NameSource, L: Ledger>(
             items,
             condition.as_ref(),
         ),
+        Stmt::Create(create) => {
+            let folder = folder_of(root, &create.table.text)?;
+            create_table(alloc, store, clock, names, &folder, create)
+        }
         Stmt::Delete { table } => {
             delete_from(alloc, store, clock, names, &folder_of(root, &table.text)?)
         }

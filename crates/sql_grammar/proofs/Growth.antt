@@ -13,6 +13,7 @@ use Rattle.sql_tree.specs.declared.token.Token.{Token}
 use Rattle.sql_tree.specs.declared.tree.Expr.{Expr}
 use Rattle.sql_tree.specs.declared.tree.WrittenType.{WrittenType}
 use Rattle.sql_tree.specs.Kinds.{is, any, names, names_alone, is_value, compares, multiplies, signs, is_truth, is_plain_type, is_text, dates}
+use Rattle.sql_grammar.specs.Create.{lone_type}
 use Rattle.sql_grammar.specs.Grammar as g
 use Rattle.sql_grammar.specs.Reading.{run_inside, run_type_inside}
 use Rattle.sql_grammar.specs.Tree as tree
@@ -76,11 +77,21 @@ at_version_grows script = valued_grows tree.at_version (both_grows (token_grows 
 
 -- ---- types
 
-type_grows : (script : List ℕ) (depth : ℕ) → Grows (g.written_type script depth) (g.written_type script (suc depth))
-type_grows script depth = either_grows (valued_grows tree.plain_type (class_grows is_plain_type k.Boolean refl))
-    (valued_grows (tree.decimal_type script) (both_grows (token_grows k.DecimalWord refl) (both_grows (opening_grows depth k.Open refl)
+type_goes_on : (script : List ℕ) (n m : ℕ) → Grows (g.opening n k.Open) (g.opening m k.Open) → Grows (g.written_type script n) (g.written_type script m)
+type_goes_on script n m opens = either_grows (valued_grows tree.plain_type (class_grows is_plain_type k.Boolean refl))
+    (valued_grows (tree.decimal_type script) (both_grows (token_grows k.DecimalWord refl) (both_grows opens
     (both_grows (token_grows k.Whole refl) (both_grows (token_grows k.Comma refl) (both_grows (token_grows k.Whole refl) (token_grows k.Close refl) (token_local k.Whole))
-    (token_local k.Comma)) (token_local k.Whole)) (open_local (suc depth) k.Open)) (token_local k.DecimalWord)))
+    (token_local k.Comma)) (token_local k.Whole)) (open_local m k.Open)) (token_local k.DecimalWord)))
+
+type_grows : (script : List ℕ) (depth : ℕ) → Grows (g.written_type script depth) (g.written_type script (suc depth))
+type_grows script depth = type_goes_on script depth (suc depth) (opening_grows depth k.Open refl)
+
+one_opening : Grows (g.opening 1 k.Open) (g.opening 1 k.Open)
+unfolding g.opening
+one_opening = token_grows k.Open refl
+
+pub lone_type_grows : (script : List ℕ) → Grows (lone_type script) (lone_type script)
+lone_type_grows script = type_goes_on script 1 1 one_opening
 
 a_type : (script : List ℕ) → (ts : List Token) × (t : WrittenType) × (g.type_inside script 1).reads ts t []
 unfolding g.type_inside run_type_inside

@@ -113,7 +113,7 @@ module _ (script : List ℕ) where
   pub table_held : (t : Token) → Stands script t → is_table t.kind ≡ true → HoldsTable script (tree.table_at script t.span)
   table_held t x h = record { part = x.part; means = some_is (table_of (slice script t.span)) [] (table_means t.kind (slice script t.span) h x.means) }
 
-  text_held : (t : Token) → Stands script t → is_text t.kind ≡ true → HoldsText script t.span (tree.text_at script t.span)
+  pub text_held : (t : Token) → Stands script t → is_text t.kind ≡ true → HoldsText script t.span (tree.text_at script t.span)
   text_held t x h = record { part = x.part; means = some_is (text_of (slice script t.span)) [] (text_means t.kind (slice script t.span) h x.means) }
 
   number_held : (t : Token) → Stands script t → is k.Whole t ≡ true → HoldsNumber script (tree.number_at script t.span).unscaled

@@ -78,7 +78,7 @@ module _ (script : List ℕ) where
 
   -- ---- types
 
-  written : (depth : ℕ) → Keep (g.written_type script depth) (HoldsType script)
+  pub written : (depth : ℕ) → Keep (g.written_type script depth) (HoldsType script)
   written depth = either_keeps (valued_keeps (class is_plain_type) tree.plain_type (λ t h. plain_held script t h.0))
       (valued_keeps (both_keeps (token k.DecimalWord) (both_keeps (opening depth k.Open) (both_keeps (token k.Whole) (both_keeps (token k.Comma) (both_keeps (token k.Whole) (token k.Close))))))
       (tree.decimal_type script) (λ p h. decimal_held script p.0 p.1.0 p.1.1.0 p.1.1.1.0 p.1.1.1.1.0 p.1.1.1.1.1 h.0.0 h.1.1.0.0 h.1.1.0.1 h.1.1.1.1.0.0 h.1.1.1.1.0.1 h.1.1.1.1.1.0))

@@ -1,4 +1,5 @@
 pub mod Readers
+pub mod Create
 pub mod Statements
 pub mod Turns
 pub mod Fronts

@@ -27,6 +27,7 @@ use Rattle.sql_grammar.specs.Reading as r
 use Rattle.sql_grammar.specs.Reading.{first_expr}
 use Rattle.sql_grammar.specs.Statements as s
 use Rattle.sql_grammar.specs.Statements.{HoldsItem, HoldsItems, HoldsStmt}
+use Rattle.sql_grammar.proofs.Create.{after_create, create_leads, create_plain, create_grows, create}
 use Rattle.sql_grammar.proofs.Fronts.{token_plain, commas_plain, at_version_plain, any_expr_plain, expression_plain}
 use Rattle.sql_grammar.proofs.Growth.{class_grows, token_grows, token_local, maybe_grows, commas_grows, at_version_grows, any_expr_grows, expression_grows}
 use Rattle.sql_grammar.proofs.Holding.{name_held, table_held}
@@ -44,6 +45,10 @@ after_items t = is k.Comma t || after_item t
 
 abbrev after_select : Token → Bool
 after_select t = is k.Version t || (is k.Where t || after_expr t)
+
+-- .. and a statement
+abbrev after_statement : Token → Bool
+after_statement t = after_create t || after_select t
 
 module _ (script : List ℕ) where
   pub show_files_leads : Leads (s.show_files_of script (g.expression script)) (s.run_show_files script) (is k.Files) none
@@ -85,9 +90,9 @@ module _ (script : List ℕ) where
   pub delete_leads : Leads (s.delete_of script (g.expression script)) (s.run_delete script) (is k.Delete) none
   delete_leads = valued_leads (s.delete script) (both_leads (token_leads k.Delete) (both_leads (token_leads k.From) (one_leads (any is_table)) (λ t _. refl)) (λ t _. refl))
 
-  pub statement_leads : Leads (s.statement_of script (g.expression script)) (s.run_statement script) s.first_statement after_select
-  statement_leads = goes_leads after_select (among _ _ (λ s. refl)) (either_leads show_leads
-      (either_leads select_leads delete_leads (apart _ _ (λ s. refl))) (apart _ _ (λ s. refl)))
+  pub statement_leads : Leads (s.statement_of script (g.expression script)) (s.run_statement script) s.first_statement after_statement
+  statement_leads = goes_leads after_statement (among _ _ (λ s. refl)) (either_leads show_leads
+      (either_leads select_leads (either_leads delete_leads (create_leads script) (apart _ _ (λ s. refl))) (apart _ _ (λ s. refl))) (apart _ _ (λ s. refl)))
 
   pub ended_leads : Leads (s.ended_of script (g.expression script)) (s.run_ended script) s.first_statement none
   ended_leads = valued_leads _ (both_leads statement_leads (token_leads k.Semicolon) (apart _ _ (λ s. refl)))
@@ -130,7 +135,7 @@ module _ (script : List ℕ) {C : Lang Token Expr} (x : Plain C) where
   delete_plain = valued_plain (s.delete script) (both_plain (token_plain k.Delete) (both_plain (token_plain k.From) (one_plain (any is_table))))
 
   pub statement_plain : Plain (s.statement_of script C)
-  statement_plain = either_plain show_plain (either_plain select_plain delete_plain)
+  statement_plain = either_plain show_plain (either_plain select_plain (either_plain delete_plain (create_plain script x)))
 
   pub ended_plain : Plain (s.ended_of script C)
   ended_plain = valued_plain _ (both_plain statement_plain (token_plain k.Semicolon))
@@ -176,7 +181,7 @@ module _ (script : List ℕ) {C C' : Lang Token Expr} (x : Grows C C') (l : Plai
   delete_grows = valued_grows (s.delete script) (both_grows (token_grows k.Delete refl) (both_grows (token_grows k.From refl) (class_grows is_table k.Table refl) (token_local k.From)) (token_local k.Delete))
 
   statement_grows : Grows (s.statement_of script C) (s.statement_of script C')
-  statement_grows = either_grows show_grows (either_grows select_grows delete_grows)
+  statement_grows = either_grows show_grows (either_grows select_grows (either_grows delete_grows (create_grows script x l)))
 
   pub script_grows : Grows (s.script_of script C) (s.script_of script C')
   script_grows = many_grows (valued_grows _ (both_grows statement_grows (token_grows k.Semicolon refl) (statement_plain script l).local)) (ended_plain script l).local
@@ -228,7 +233,7 @@ module _ (script : List ℕ) {C : Lang Token Expr} (x : Keep script C (HoldsExpr
   delete = valued_keeps (both_keeps (token script k.Delete) (both_keeps (token script k.From) (class script is_table))) (s.delete script) (λ p h. table_held script p.1.1 h.1.1.0 h.1.1.1)
 
   scripts : Keep script (s.script_of script C) (AllByRecursion (HoldsStmt script))
-  scripts = many_keeps (valued_keeps (both_keeps (either_keeps show (either_keeps select delete)) (token script k.Semicolon)) (λ p. p.0) (λ p h. h.0))
+  scripts = many_keeps (valued_keeps (both_keeps (either_keeps show (either_keeps select (either_keeps delete (create script x)))) (token script k.Semicolon)) (λ p. p.0) (λ p h. h.0))
 
 pub script_held : (script : List ℕ) (ts : List Token) (all : List Stmt) → AreMeant script ts → AreParts 0 (length script) ts → (s.script script).reads ts all [] → All (HoldsStmt script) all
 script_held script ts all meant parts r =

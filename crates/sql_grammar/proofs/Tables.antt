@@ -15,6 +15,7 @@ use Rattle.sql_lex.specs.declared.lexer.Before.{Before}
 use Rattle.sql_lex.specs.declared.lexer.Before.TheVariants as before
 use Rattle.sql_lex.specs.Tokens.{after, is_table_due}
 use Rattle.sql_grammar.specs.Due.{HasTablesWhereDue}
+use Rattle.sql_grammar.specs.Create as c
 use Rattle.sql_grammar.specs.Grammar as g
 use Rattle.sql_grammar.specs.Statements as s
 use Rattle.sql_grammar.specs.Tree as tree
@@ -101,7 +102,23 @@ unfolding Steps
 select_ends s k.Semicolon h = (refl, refl)
 select_ends s _ h = absurd (cc)
 
--- a token of a SELECT that is no table, and behind which none is due
+then_ends : (s : Span) (kind : Kind) → is k.Semicolon (record { kind = kind; span = s }) ≡ true → Steps before.Then before.Start kind
+unfolding Steps
+then_ends s k.Semicolon h = (refl, refl)
+then_ends s _ h = absurd (cc)
+
+creates : (s : Span) (kind : Kind) → is k.Create (record { kind = kind; span = s }) ≡ true → Steps before.Start before.Other kind
+unfolding Steps
+creates s k.Create h = (refl, refl)
+creates s _ h = absurd (cc)
+
+table_words : (s : Span) (kind : Kind) → is k.TableWord (record { kind = kind; span = s }) ≡ true → Steps before.Other before.Table kind
+unfolding Steps
+table_words s k.TableWord h = (refl, refl)
+table_words s _ h = absurd (cc)
+
+-- a token of expressions, of a SELECT and of what stands behind the table of a CREATE that is no table, and behind which
+-- none is due
 abbrev stays : Kind → Bool
 stays k.Table = false
 stays k.TableChanges = false
@@ -111,6 +128,9 @@ stays k.Into = false
 stays k.TableWord = false
 stays k.Show = false
 stays k.Verify = false
+stays k.Using = false
+stays k.Update = false
+stays k.Select = false
 stays _ = true
 
 stays_so : (kind : Kind) → stays kind ≡ true → Steps before.Select before.Select kind
@@ -123,7 +143,30 @@ stays_so k.Into h = absurd (cc)
 stays_so k.TableWord h = absurd (cc)
 stays_so k.Show h = absurd (cc)
 stays_so k.Verify h = absurd (cc)
+stays_so k.Using h = absurd (cc)
+stays_so k.Update h = absurd (cc)
+stays_so k.Select h = absurd (cc)
 stays_so _ h = (refl, refl)
+
+-- outside of a SELECT, wherever THEN stands before the tokens or not
+abbrev HasTablesOutside : List Token → Type 0
+HasTablesOutside ts = HasTablesWhereDue before.Other ts × HasTablesWhereDue before.Then ts
+
+outside_so : (kind : Kind) (ts : List Token) → stays kind ≡ true → HasTablesOutside ts
+    → (is_table kind ≡ false) × HasTablesWhereDue (after before.Other kind) ts × HasTablesWhereDue (after before.Then kind) ts
+outside_so k.Table ts h due = absurd (cc)
+outside_so k.TableChanges ts h due = absurd (cc)
+outside_so k.Semicolon ts h due = absurd (cc)
+outside_so k.From ts h due = absurd (cc)
+outside_so k.Into ts h due = absurd (cc)
+outside_so k.TableWord ts h due = absurd (cc)
+outside_so k.Show ts h due = absurd (cc)
+outside_so k.Verify ts h due = absurd (cc)
+outside_so k.Using ts h due = absurd (cc)
+outside_so k.Update ts h due = absurd (cc)
+outside_so k.Select ts h due = absurd (cc)
+outside_so k.Then ts h due = (refl, due.1, due.1)
+outside_so _ ts h due = (refl, due.0, due.0)
 
 one_more : (state next : Before) (t : Token) (ts : List Token) → is_table_due state ≡ false → Steps state next t.kind → HasTablesWhereDue next ts → HasTablesWhereDue state (t ∷ ts)
 unfolding Steps
@@ -141,52 +184,68 @@ ended t ts is rest = one_more before.Other before.Start t ts refl (ends t.span t
 select_ended : (t : Token) (ts : List Token) → is k.Semicolon t ≡ true → HasTablesWhereDue before.Start ts → HasTablesWhereDue before.Select (t ∷ ts)
 select_ended t ts is rest = one_more before.Select before.Start t ts refl (select_ends t.span t.kind is) rest
 
+then_ended : (t : Token) (ts : List Token) → is k.Semicolon t ≡ true → HasTablesWhereDue before.Start ts → HasTablesWhereDue before.Then (t ∷ ts)
+then_ended t ts is rest = one_more before.Then before.Start t ts refl (then_ends t.span t.kind is) rest
+
 same : (ts us : List Token) (state : Before) → ts ≡ us → HasTablesWhereDue state us → HasTablesWhereDue state ts
 same ts us state e h = subst (λ (xs : List Token). HasTablesWhereDue state xs) (sym e) h
 
--- ---- parts of a SELECT without a table
+-- ---- parts without a table
+
+-- tokens before which such a token may stand
+abbrev GoesOn : (List Token → Type 0) → Type 0
+GoesOn Due = (t : Token) (ts : List Token) → stays t.kind ≡ true → Due ts → Due (t ∷ ts)
+
+in_select : GoesOn (HasTablesWhereDue before.Select)
+in_select t ts stay due = one_more before.Select before.Select t ts refl (stays_so t.kind stay) due
+
+outside : GoesOn HasTablesOutside
+outside t ts stay due = let so = outside_so t.kind ts stay due in ((so.0, so.1), (so.0, so.2))
 
 -- where the tables behind a sentence stand where they are due, so do those from its beginning on
-record Steady {A : Type 0} (L : Lang Token A) : Type 0 where
-  due : (ts : List Token) (a : A) (rest : List Token) → HasTablesWhereDue before.Select rest → L.reads ts a rest → HasTablesWhereDue before.Select ts
+record Steady {A : Type 0} (L : Lang Token A) : Type 1 where
+  due : (Due : List Token → Type 0) → GoesOn Due → (ts : List Token) (a : A) (rest : List Token) → Due rest → L.reads ts a rest → Due ts
+
+alike : (Due : List Token → Type 0) (ts us : List Token) → ts ≡ us → Due us → Due ts
+alike Due ts us e h = subst Due (sym e) h
 
 -- by a test of each kind
 one_steady : (is_one : Token → Bool) → ((s : Span) → every kinds (λ kind. not (is_one (record { kind = kind; span = s })) || stays kind) ≡ true) → Steady (one is_one)
 one_steady is_one so = record {
-  due = λ ts t rest h r.
+  due = λ Due on ts t rest h r.
       let stay = holds_then (is_one t) (stays t.kind) (at_each (λ kind. not (is_one (record { kind = kind; span = t.span })) || stays kind) (so t.span) t.kind) r.1 in
-      same ts (t ∷ rest) before.Select r.0 (one_more before.Select before.Select t rest refl (stays_so t.kind stay) h);
+      alike Due ts (t ∷ rest) r.0 (on t rest stay h);
 }
 
 nothing_steady : Steady nothing
-nothing_steady = record { due = λ ts a rest h e. same ts rest before.Select e h }
+nothing_steady = record { due = λ Due on ts a rest h e. alike Due ts rest e h }
 
 never_steady : {A : Type 0} → Steady {A = A} never
-never_steady = record { due = λ ts a rest h none. absurd none }
+never_steady = record { due = λ Due on ts a rest h none. absurd none }
 
 module _ {A : Type 0} {L : Lang Token A} (x : Steady L) where
   valued_steady : {B : Type 0} (make : A → B) → Steady (valued make L)
-  valued_steady make = record { due = λ ts b rest h r. x.due ts r.0 rest h r.1 }
+  valued_steady make = record { due = λ Due on ts b rest h r. x.due Due on ts r.0 rest h r.1 }
 
   both_steady : {B : Type 0} {E : Lang Token B} → Steady E → Steady (both L E)
-  both_steady y = record { due = λ ts p rest h r. x.due ts p.0 r.0 (y.due r.0 p.1 rest h r.2) r.1 }
+  both_steady y = record { due = λ Due on ts p rest h r. x.due Due on ts p.0 r.0 (y.due Due on r.0 p.1 rest h r.2) r.1 }
 
-  either_due : {E : Lang Token A} → Steady E → (ts : List Token) (a : A) (rest : List Token) → HasTablesWhereDue before.Select rest → L.reads ts a rest ⊎ E.reads ts a rest → HasTablesWhereDue before.Select ts
-  either_due y ts a rest h (inl r) = x.due ts a rest h r
-  either_due y ts a rest h (inr r) = y.due ts a rest h r
+  either_due : {E : Lang Token A} → Steady E → (Due : List Token → Type 0) → GoesOn Due → (ts : List Token) (a : A) (rest : List Token) → Due rest → L.reads ts a rest ⊎ E.reads ts a rest → Due ts
+  either_due y Due on ts a rest h (inl r) = x.due Due on ts a rest h r
+  either_due y Due on ts a rest h (inr r) = y.due Due on ts a rest h r
 
   either_steady : {E : Lang Token A} → Steady E → Steady (either L E)
   either_steady y = record { due = either_due y }
 
-  many_due : (ts : List Token) (all : List A) (rest : List Token) → HasTablesWhereDue before.Select rest → reads_all L.reads ts all rest → HasTablesWhereDue before.Select ts
-  many_due ts [] rest h e = same ts rest before.Select e h
-  many_due ts (a ∷ all) rest h r = x.due ts a r.0 (many_due r.0 all rest h r.2) r.1
+  many_due : (Due : List Token → Type 0) → GoesOn Due → (ts : List Token) (all : List A) (rest : List Token) → Due rest → reads_all L.reads ts all rest → Due ts
+  many_due Due on ts [] rest h e = alike Due ts rest e h
+  many_due Due on ts (a ∷ all) rest h r = x.due Due on ts a r.0 (many_due Due on r.0 all rest h r.2) r.1
 
   many_steady : Steady (many L)
   many_steady = record { due = many_due }
 
   at_most_steady : (n : ℕ) → Steady (at_most n L)
-  at_most_steady n = record { due = λ ts a rest h r. x.due ts a rest h r.0 }
+  at_most_steady n = record { due = λ Due on ts a rest h r. x.due Due on ts a rest h r.0 }
 
 module _ {A : Type 0} {L : Lang Token A} (x : Steady L) where
   maybe_steady : Steady (g.maybe L)
@@ -309,6 +368,45 @@ module _ (script : List ℕ) where
   where_condition : Steady (s.where_of script (g.expression script))
   where_condition = valued_steady (both_steady (one_steady (is k.Where) (λ s. refl)) expression) g.second
 
+  rule : Steady (c.rule_of script (g.expression script))
+  rule = valued_steady (both_steady (one_steady (is k.Open) (λ s. refl)) (both_steady expression close)) (c.rule script)
+
+  signed : Steady (c.signed_of script (g.expression script))
+  signed = valued_steady (both_steady (maybe_steady (one_steady (is k.Minus) (λ s. refl))) (one_steady (is k.Whole) (λ s. refl))) (c.signed script)
+
+  steps : Steady (c.steps_of script (g.expression script))
+  steps = valued_steady (both_steady (one_steady (is k.Open) (λ s. refl)) (both_steady (one_steady (is k.Start) (λ s. refl)) (both_steady (one_steady (is k.With) (λ s. refl))
+      (both_steady signed (both_steady (one_steady (is k.Increment) (λ s. refl)) (both_steady (one_steady (is k.By) (λ s. refl)) (both_steady signed close))))))) c.steps
+
+  identity : (explicit : Bool) → Steady (c.identity_of_kind script (g.expression script) explicit)
+  identity explicit = valued_steady (both_steady (one_steady (is k.Identity) (λ s. refl)) (maybe_steady steps)) (c.identity explicit)
+
+  made : Steady (c.made_of script (g.expression script))
+  made = valued_steady (both_steady (one_steady (is k.Generated) (λ s. refl)) (either_steady
+      (valued_steady (both_steady (one_steady (is k.Always) (λ s. refl)) (both_steady (one_steady (is k.As) (λ s. refl)) (either_steady (valued_steady rule c.computed) (identity false)))) c.always)
+      (valued_steady (both_steady (one_steady (is k.By) (λ s. refl)) (both_steady (one_steady (is k.Default) (λ s. refl)) (both_steady (one_steady (is k.As) (λ s. refl)) (identity true)))) c.by_default))) c.made
+
+  element : Steady (c.element_of script (g.expression script))
+  element =
+      let name = one_steady (any names) (λ s. refl) in
+      let not_null = both_steady (one_steady (is k.Not) (λ s. refl)) (one_steady (is k.Null) (λ s. refl)) in
+      either_steady (valued_steady (both_steady (both_steady (both_steady name (written 1)) (maybe_steady not_null)) (maybe_steady made)) (c.column script))
+      (valued_steady (both_steady (one_steady (is k.Constraint) (λ s. refl)) (both_steady name (both_steady (one_steady (is k.Check) (λ s. refl)) rule))) (c.check script))
+
+  partitions : Steady (c.partitions_of script (g.expression script))
+  partitions = valued_steady (both_steady (one_steady (is k.Partitioned) (λ s. refl)) (both_steady (one_steady (is k.By) (λ s. refl)) (both_steady (one_steady (is k.Open) (λ s. refl))
+      (both_steady (commas_steady (valued_steady (one_steady (any names) (λ s. refl)) (c.named script))) close)))) c.partitions
+
+  properties : Steady (c.properties_of script (g.expression script))
+  properties =
+      let text = one_steady (any is_text) (λ s. refl) in
+      let property = valued_steady (both_steady text (both_steady (one_steady (is k.Equal) (λ s. refl)) text)) (c.property script) in
+      valued_steady (both_steady (one_steady (is k.TblProperties) (λ s. refl)) (both_steady (one_steady (is k.Open) (λ s. refl)) (both_steady (commas_steady property) close))) c.properties
+
+  -- behind the table of a CREATE
+  create_rest : Steady (both (g.token k.Open) (both (g.commas (c.element_of script (g.expression script))) (c.create_end_of script (g.expression script))))
+  create_rest = both_steady (one_steady (is k.Open) (λ s. refl)) (both_steady (commas_steady element) (both_steady (both_steady close (maybe_steady partitions)) (maybe_steady properties)))
+
 -- ---- statements
 
 -- behind a table, where no other is due
@@ -337,26 +435,36 @@ shown_due bytes ts stmt rest (inr (p, (one, (first, row), (two, (second, is), ve
 select_due : (bytes : List ℕ) (ts : List Token) (stmt : Stmt) (rest : List Token) → (s.select_of bytes (g.expression bytes)).reads ts stmt rest
     → HasTablesWhereDue before.Select rest → HasTablesWhereDue before.Start ts
 select_due bytes ts stmt rest (p, (one, (first, select), (two, items, (three, (second, comes), (five, (four, (third, is), version), condition)))), made) h =
-    let versioned = (maybe_steady (where_condition bytes)).due five p.1.1.1.1 rest h condition in
-    let named = (maybe_steady (at_version bytes)).due four p.1.1.1.0.1 five versioned version in
+    let versioned = (maybe_steady (where_condition bytes)).due (HasTablesWhereDue before.Select) in_select five p.1.1.1.1 rest h condition in
+    let named = (maybe_steady (at_version bytes)).due (HasTablesWhereDue before.Select) in_select four p.1.1.1.0.1 five versioned version in
     let table = same three (p.1.1.1.0.0 ∷ four) before.SelectTable third (at_select_table p.1.1.1.0.0 four is named) in
     let behind = same two (p.1.1.0 ∷ three) before.Select second (one_more before.Select before.SelectTable p.1.1.0 three refl (select_from (p.1.1.0).span (p.1.1.0).kind comes) table) in
-    let asked = (select_items bytes).due one p.1.0 two behind items in
+    let asked = (select_items bytes).due (HasTablesWhereDue before.Select) in_select one p.1.0 two behind items in
     same ts (p.0 ∷ one) before.Start first (one_more before.Start before.Select p.0 one refl (selects (p.0).span (p.0).kind select) asked)
 
+create_due : (bytes : List ℕ) (ts : List Token) (stmt : Stmt) (rest : List Token) → (c.create_of bytes (g.expression bytes)).reads ts stmt rest
+    → HasTablesOutside rest → HasTablesWhereDue before.Start ts
+create_due bytes ts stmt rest (p, (one, (first, create), (two, (second, word), (three, (third, is), more))), made) h =
+    let behind = (create_rest bytes).due HasTablesOutside outside three p.1.1.1 rest h more in
+    same ts (p.0 ∷ one) before.Start first (one_more before.Start before.Other p.0 one refl (creates (p.0).span (p.0).kind create)
+    (same one (p.1.0 ∷ two) before.Other second (one_more before.Other before.Table p.1.0 two refl (table_words (p.1.0).span (p.1.0).kind word)
+    (same two (p.1.1.0 ∷ three) before.Table third (at_table p.1.1.0 three is behind.0)))))
+
 one_statement : (bytes : List ℕ) (ts : List Token) (stmt : Stmt) (rest : List Token) → (s.statement_of bytes (g.expression bytes)).reads ts stmt rest
-    → HasTablesWhereDue before.Other rest → HasTablesWhereDue before.Select rest → HasTablesWhereDue before.Start ts
+    → HasTablesOutside rest → HasTablesWhereDue before.Select rest → HasTablesWhereDue before.Start ts
 one_statement bytes ts stmt rest (inl (p, (one, (first, show), shown), made)) h selected =
-    same ts (p.0 ∷ one) before.Start first (one_more before.Start before.Show p.0 one refl (shows (p.0).span (p.0).kind show) (shown_due bytes one p.1 rest shown h))
+    same ts (p.0 ∷ one) before.Start first (one_more before.Start before.Show p.0 one refl (shows (p.0).span (p.0).kind show) (shown_due bytes one p.1 rest shown h.0))
 one_statement bytes ts stmt rest (inr (inl reads)) h selected = select_due bytes ts stmt rest reads selected
-one_statement bytes ts stmt rest (inr (inr (p, (one, (first, delete), (two, (second, comes), (third, is))), made))) h selected =
+one_statement bytes ts stmt rest (inr (inr (inl (p, (one, (first, delete), (two, (second, comes), (third, is))), made)))) h selected =
     same ts (p.0 ∷ one) before.Start first (one_more before.Start before.Other p.0 one refl (deletes (p.0).span (p.0).kind delete)
     (same one (p.1.0 ∷ two) before.Other second (one_more before.Other before.Table p.1.0 two refl (from (p.1.0).span (p.1.0).kind comes)
-    (same two (p.1.1 ∷ rest) before.Table third (at_table p.1.1 rest is h)))))
+    (same two (p.1.1 ∷ rest) before.Table third (at_table p.1.1 rest is h.0)))))
+one_statement bytes ts stmt rest (inr (inr (inr reads))) h selected = create_due bytes ts stmt rest reads h
 
 pub tables_where_due : (bytes : List ℕ) (ts : List Token) (all : List Stmt) → (s.script bytes).reads ts all [] → HasTablesWhereDue before.Start ts
 tables_where_due bytes ts [] reads = same ts [] before.Start reads tt
 tables_where_due bytes ts (stmt ∷ more) (mid, (p, (inner, one, (semicolon, is)), made), others) =
     let behind = tables_where_due bytes mid more others in
-    one_statement bytes ts p.0 inner one (same inner (p.1 ∷ mid) before.Other semicolon (ended p.1 mid is behind))
-    (same inner (p.1 ∷ mid) before.Select semicolon (select_ended p.1 mid is behind))
+    let outer = same inner (p.1 ∷ mid) before.Other semicolon (ended p.1 mid is behind) in
+    let behind_then = same inner (p.1 ∷ mid) before.Then semicolon (then_ended p.1 mid is behind) in
+    one_statement bytes ts p.0 inner one (outer, behind_then) (same inner (p.1 ∷ mid) before.Select semicolon (select_ended p.1 mid is behind))

@@ -4,4 +4,5 @@ pub mod Grammar
 pub mod Held
 pub mod Open
 pub mod Reading
+pub mod Create
 pub mod Statements

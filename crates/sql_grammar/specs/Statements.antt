@@ -11,8 +11,9 @@ use Rattle.sql_statements.specs.declared.SelectItem.{SelectItem}
 use Rattle.sql_statements.specs.declared.SelectItems.{SelectItems}
 use Rattle.sql_statements.specs.declared.SelectItems.TheVariants as items
 use Rattle.sql_statements.specs.declared.Stmt.{Stmt}
-use Rattle.sql_statements.specs.declared.Stmt.TheVariants.{ShowFiles, ShowRows, Select, Delete}
+use Rattle.sql_statements.specs.declared.Stmt.TheVariants.{ShowFiles, ShowRows, Select, Delete, Create}
 use Rattle.sql_tree.specs.Kinds.{is}
+use Rattle.sql_grammar.specs.Create.{HoldsCreate, create_of, run_create}
 use Rattle.sql_grammar.specs.Grammar.{second, token, name, table, maybe, commas, at_version, any_expr, expression}
 use Rattle.sql_grammar.specs.Held.{HoldsName, HoldsTable, HoldsVersion, HoldsExpr}
 use Rattle.sql_grammar.specs.Reading.{run_token, run_valued, run_all, run_name, run_table, run_maybe, run_commas, run_maybe_at_version, run_expression}
@@ -35,6 +36,7 @@ HoldsStmt script (ShowRows table version) = HoldsTable script table × IfSome ve
 HoldsStmt script (Select items table version condition) = HoldsItems script items × HoldsTable script table ×
     IfSome version (HoldsVersion script) × IfSome condition (HoldsExpr script)
 HoldsStmt script (Delete table) = HoldsTable script table
+HoldsStmt script (Create stmt) = HoldsCreate script stmt
 
 -- ---- trees
 
@@ -101,7 +103,7 @@ module _ (bytes : List ℕ) (expr : Lang Token Expr) where
   delete_of = valued (delete bytes) (both (token k.Delete) (both (token k.From) table))
 
   abbrev pub statement_of : Lang Token Stmt
-  statement_of = either show_of (either select_of delete_of)
+  statement_of = either show_of (either select_of (either delete_of (create_of bytes expr)))
 
   -- statement ";"
   abbrev pub ended_of : Lang Token Stmt
@@ -122,7 +124,7 @@ script bytes = script_of bytes (expression bytes)
 -- ---- readers
 
 abbrev pub first_statement : Token → Bool
-first_statement t = is k.Show t || (is k.Select t || is k.Delete t)
+first_statement t = is k.Show t || (is k.Select t || (is k.Delete t || is k.Create t))
 
 module _ (bytes : List ℕ) where
   abbrev pub run_show_files : Reader Token Stmt
@@ -168,7 +170,8 @@ module _ (bytes : List ℕ) where
   run_delete = run_valued (delete bytes) (run_both (run_token k.Delete) (run_both (run_token k.From) run_table))
 
   abbrev pub run_statement : Reader Token Stmt
-  run_statement = run_either (is k.Show) run_show (run_either (is k.Select) run_select run_delete)
+  run_statement = run_either (is k.Show) run_show (run_either (is k.Select) run_select
+      (run_either (is k.Delete) run_delete (run_create bytes)))
 
   abbrev pub run_ended : Reader Token Stmt
   run_ended = run_valued (λ p. p.0) (run_both run_statement (run_token k.Semicolon))

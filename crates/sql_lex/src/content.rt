@@ -47,7 +47,8 @@ fn halved(alloc: Global, quote: u8, bytes: &[u8]) -> Result<Bytes, AllocError>
     Ok(content)
 }
 
-fn as_text(bytes: Bytes) -> Option<Text>
+/// The bytes as a text, where they are UTF-8.
+pub fn as_text(bytes: Bytes) -> Option<Text>
     ensures { result ≡ spec.if_text bytes }
 {
     Text::from_utf8(bytes)

@@ -11,7 +11,7 @@ mod signs;
 mod tables;
 mod words;
 
-pub use content::{bytes_of, name_of, number_of, table_of, text_of};
+pub use content::{as_text, bytes_of, name_of, number_of, table_of, text_of};
 pub use laws::{
     names_spelled, reserved_words_are_no_names, signs_are_longest, spans_ascend, texts_spelled,
     tokens_mean, tokens_stand,

@@ -1,3 +1,4 @@
 pub mod Levels
 pub mod Cut
 mod Derived
+mod Behind

@@ -47,7 +47,7 @@ fn decimal_type(
     })
 }
 
-fn written_type(
+pub(crate) fn written_type(
     source: &Source<'_>,
     tokens: &mut Tokens<'_>,
     depth: usize,

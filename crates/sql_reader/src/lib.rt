@@ -4,6 +4,7 @@
 
 mod build;
 mod class;
+mod create;
 mod expr;
 mod fault;
 mod read;
@@ -13,7 +14,10 @@ mod tokens;
 
 pub use fault::ScriptFault;
 pub use read::{read_expr, read_script};
-pub use sql_statements::{SelectItem, SelectItemList, SelectItems, Stmt, Stmts, TableName};
+pub use sql_statements::{
+    CheckElement, ColumnElement, CreateStmt, Element, Elements, Made, Names, Properties, Property,
+    RuleText, SelectItem, SelectItemList, SelectItems, Stmt, Stmts, TableName, WrittenIdentity,
+};
 pub use sql_tree::{
     Branches, Expr, Exprs, Literal, Name, Number, Operator, Prefix, Span, Truth, WrittenKind,
     WrittenType,

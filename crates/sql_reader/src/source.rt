@@ -1,10 +1,11 @@
 // A script, and what stands at its places.
-ghost use Rattle.std.specs.Prelude.{◌≡◌, [], IfOk, unwrap_or};
+ghost use Rattle.std.specs.Prelude.{◌≡◌, ◌<◌, ◌^◌, [], IfOk, unwrap_or};
+ghost use Rattle.sql_grammar.specs.Create as create;
 ghost use Rattle.sql_grammar.specs.Tree as tree;
 ghost use Rattle.sql_tree.specs.Places.{slice};
 
 use dm_types::{Bytes, Text};
-use sql_lex::{bytes_of, name_of, number_of, table_of, text_of};
+use sql_lex::{as_text, bytes_of, name_of, number_of, table_of, text_of};
 use sql_statements::TableName;
 use sql_tree::{Name, Number, Span};
 use std::alloc::{AllocError, Global};
@@ -81,9 +82,18 @@ impl<'a> Source<'a> {
         number_of(part(self.script, span)).unwrap_or(none)
     }
 
+    // What stands at a place, as it is written.
+    pub(crate) fn written_at(&self, place: Span) -> Result<Text, AllocError>
+        ensures { IfOk result (λ text. text ≡ create.written_at self.now place) }
+    {
+        let bytes = Bytes::from_slice(self.alloc, part(self.script, place))?;
+        Ok(text_or_none(self.alloc, as_text(bytes)))
+    }
+
     // A whole number below 2^63.
     pub(crate) fn whole_at(&self, span: Span) -> u64
-        ensures { result ≡ tree.whole_at self.now span }
+        ensures number { result ≡ tree.whole_at self.now span }
+        ensures bound { result < 2 ^ 63 }
     {
         let number = self.number_at(span).unscaled;
         if number < 1 << 63 { number as u64 } else { 0 }

@@ -10,6 +10,7 @@ ghost use Rattle.sql_reader.specs.Steps.{Yields};
 ghost use Rattle.sql_reader.specs.Answers.{IsRead, IsPlace};
 
 use crate::class::{Class, Level};
+use crate::create::create;
 use crate::expr::chain;
 use crate::fault::{Fault, ScriptFault};
 use crate::source::Source;
@@ -26,7 +27,7 @@ const MAX_DEPTH: usize = 64;
 const MAX_TOKENS: usize = 1000;
 
 // An expression within the limits.
-fn expression(source: &Source<'_>, tokens: &mut Tokens<'_>) -> Result<Expr, Fault>
+pub(crate) fn expression(source: &Source<'_>, tokens: &mut Tokens<'_>) -> Result<Expr, Fault>
     ensures { Yields (reading.run_expression source.now tokens.old) result tokens.new }
 {
     let rest = tokens.rest();
@@ -223,7 +224,10 @@ fn statement(source: &Source<'_>, tokens: &mut Tokens<'_>) -> Result<Stmt, Fault
     if tokens.sees(Kind::Select) {
         return select(source, tokens);
     }
-    delete(source, tokens)
+    if tokens.sees(Kind::Delete) {
+        return delete(source, tokens);
+    }
+    create(source, tokens)
 }
 
 // A statement and its semicolon.

@@ -177,7 +177,10 @@ impl<'a> Tokens<'a> {
     pub(crate) fn sees_statement(&self) -> bool
         ensures { result ≡ sees first_statement self.now }
     {
-        self.sees(Kind::Show) || self.sees(Kind::Select) || self.sees(Kind::Delete)
+        self.sees(Kind::Show)
+            || self.sees(Kind::Select)
+            || self.sees(Kind::Delete)
+            || self.sees(Kind::Create)
     }
 }
 

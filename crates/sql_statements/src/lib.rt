@@ -147,4 +147,6 @@ pub enum Stmt {
     Delete {
         table: TableName,
     },
+    /// `CREATE TABLE`: makes a table without rows, as its version 0.
+    Create(CreateStmt),
 }

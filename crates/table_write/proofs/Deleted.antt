@@ -1,5 +1,5 @@
 -- What DELETE leaves of files that are told.
-use Rattle.std.proofs.Common.{◌≡◌, ◌≢◌, ◌⊎◌, ℕ, zero, suc, ◌+◌, ◌-◌, ◌^◌, ◌<◌, ℤ, List, [], ◌∷◌, ◌++◌, map, length, take, length-append, append-nil, codes, cond, Bool, true, false, not, nat_lt, ◌&&◌, ◌||◌, Option, Some, None, Result, Ok, Err, inl, inr, refl, ap, sym, ◌∙◌, subst, arith}
+use Rattle.std.proofs.Common.{◌≡◌, ◌≢◌, ◌⊎◌, ℕ, zero, suc, ◌+◌, ◌-◌, ◌^◌, ◌<◌, ℤ, List, [], ◌∷◌, ◌++◌, map, length, take, length-append, codes, cond, Bool, true, false, not, nat_lt, ◌&&◌, ◌||◌, Option, Some, None, Result, Ok, Err, inl, inr, refl, ap, sym, ◌∙◌, subst, arith}
 use Rattle.std.specs.Prelude.{IfSome, unwrap_or}
 use Rattle.std.specs.List.{All, AllByRecursion}
 use Rattle.std.specs.List.Sorted.{IsStrictlySortedBy}
@@ -8,7 +8,7 @@ use Rattle.std.proofs.lemmas.Bool.Decides.{nat_tests}
 use Rattle.std.proofs.lemmas.List.Elements.{recursion_from_All, All-from_recursion}
 use Rattle.std.proofs.lemmas.Slice.Eq.{bytes_eq-Decides}
 use Rattle.dm_store.specs.Files.{Files, WhereTold, IsPresent, appended, lookup}
-use Rattle.dm_types.specs.Then.{go, ◌>>=◌}
+use Rattle.dm_types.specs.Then.{◌>>=◌}
 use Rattle.dm_types.specs.declared.refusal.Refused.TheVariants as refused
 use Rattle.dm_types.specs.declared.refusal.PutRefusal.{PutRefusal}
 use Rattle.dm_types.specs.declared.refusal.PutRefusal.TheVariants as clash
@@ -53,13 +53,9 @@ use Rattle.table_write.specs.Delete.{head_check, deletable, delete_actions, dele
 use Rattle.table_write.specs.Emptied.{DeletesAll, DeleteEmpties, LeavesFiles, DeleteStands}
 use Rattle.table_write.specs.Outside.{Outside}
 use Rattle.table_write.specs.Writing.{of_table, IsCutOff, IsStarved, NameIsTaken, VersionIsTaken, version_line}
+use Rattle.table_write.proofs.Grown.{front_of_one, grown, none_put, take_none, untouched, went}
 
 -- ---- what passed
-
--- the parts of two steps that gave a value
-went : {A B E : Type 0} (first : Result A E) (next : A → Result B E) (value : B) → go first next ≡ Ok value → (a : A) × (first ≡ Ok a) × (next a ≡ Ok value)
-went (Ok a) next value e = (a, refl, e)
-went (Err r) next value e = cc
 
 table_passed : {A : Type 0} (r : Result A TableRefusal) (value : A) → of_table r ≡ Ok value → r ≡ Ok value
 table_passed (Ok a) value e = cc
@@ -321,9 +317,6 @@ emptied laws folder text files table time passed built line =
 
 -- ---- the laws
 
-grown : (told : Option Files) (files block : Files) (now : Option Files) → told ≡ Some files → now ≡ appended told block → now ≡ Some (files ++ block)
-grown told files block now is more = more ∙ ap (λ (o : Option Files). appended o block) is
-
 passed_told : (told : Option Files) (files : Files) (folder : List ℕ) (table : Snapshot) → told ≡ Some files → WhereTold told (λ fs. deletable folder fs ≡ Ok table) → deletable folder files ≡ Ok table
 passed_told told files folder table is passed = subst (λ (o : Option Files). WhereTold o (λ fs. deletable folder fs ≡ Ok table)) is passed
 
@@ -337,26 +330,8 @@ empties laws folder text old new files is accepted =
     let put : AllPut (block_of (deletion folder table time)) old.files new.files = subst (λ (f : NewFiles). AllPut (block_of f) old.files new.files) same accepted.put in
     (files ++ block_of (deletion folder table time), grown old.files files (block_of (deletion folder table time)) new.files is put.grown, emptied laws folder text files table time (passed_told old.files files folder table is accepted.made.passed) built line)
 
--- nothing was touched
-untouched : (table : List ℕ) (files : Files) (old new : Outside) → old.files ≡ Some files → new ≡ old → new.files ≡ Some files
-untouched table files old new is same = ap (λ (o : Outside). o.files) same ∙ is
-
--- no file was put
-none_put : (files : Files) (told now : Option Files) (block : Files) → told ≡ Some files → block ≡ [] → now ≡ appended told block → now ≡ Some files
-none_put files told now block is none more = grown told files block now is more ∙ ap (λ (fs : Files). Some (files ++ fs)) none ∙ ap Some (append-nil files)
-
 leaves : (table : List ℕ) (files : Files) (why : Stop) (new : Outside) → new.files ≡ Some files → ((refusal : PutRefusal) → why ≢ stop.Refused (refused.Put refusal)) → LeavesFiles table files why new
 leaves table files why new same free = record { stands = inl same; free = free }
-
-take_none : (block : Files) (count : ℕ) → block ≡ [] → take count block ≡ []
-take_none block zero none = refl
-take_none block (suc count) none = rw none refl
-
--- a front of one file is nothing or the file
-front_of_one : (file : List ℕ × List ℕ) (block : Files) (count : ℕ) → block ≡ file ∷ [] → (take count block ≡ []) ⊎ (take count block ≡ block)
-front_of_one file block zero is = inl refl
-front_of_one file block (suc zero) is = inr (rw is refl)
-front_of_one file block (suc (suc count)) is = inr (rw is refl)
 
 block_one : (folder : List ℕ) (table : Snapshot) (time : ℤ) → block_of (deletion folder table time) ≡ commit_file (deletion folder table time) ∷ []
 block_one folder table time = ap (λ (fs : Files). fs ++ commit_file (deletion folder table time) ∷ []) (files_none folder table time)
@@ -370,7 +345,7 @@ cut_off laws folder files table time told now is passed built some = by (front_o
     by (inr whole) = inr (files ++ block_of (deletion folder table time), grown told files (block_of (deletion folder table time)) now is (some.put.grown ∙ ap (appended told) whole), version_line (table.version + 1), emptied laws folder (version_line (table.version + 1)) files table time passed built refl)
 
 store_leaves : Laws → (folder : List ℕ) (files : Files) (old new : Outside) → old.files ≡ Some files → (new ≡ old) ⊎ IsCutOff (delete_from folder) old new → LeavesFiles folder files stop.Store new
-store_leaves laws folder files old new is (inl same) = leaves folder files stop.Store new (untouched folder files old new is same) (λ refusal e. cc)
+store_leaves laws folder files old new is (inl same) = leaves folder files stop.Store new (untouched files old new is same) (λ refusal e. cc)
 store_leaves laws folder files old new is (inr cut) =
     let table = cut.made.plan in
     let time = cut.made.time in
@@ -385,7 +360,7 @@ store_leaves laws folder files old new is (inr cut) =
     by (inr (fs, now, text, deletes)) = record { stands = inr (refl, (fs, now, text, deletes)); free = λ refusal e. cc }
 
 memory_leaves : (folder : List ℕ) (files : Files) (old new : Outside) → old.files ≡ Some files → (new ≡ old) ⊎ IsStarved (delete_from folder) old new → LeavesFiles folder files stop.Memory new
-memory_leaves folder files old new is (inl same) = leaves folder files stop.Memory new (untouched folder files old new is same) (λ refusal e. cc)
+memory_leaves folder files old new is (inl same) = leaves folder files stop.Memory new (untouched files old new is same) (λ refusal e. cc)
 memory_leaves folder files old new is (inr starved) =
     let same : starved.fresh ≡ deletion folder starved.made.plan starved.made.time = starved.made.made in
     let none : take starved.put.count (files_of starved.fresh) ≡ [] = take_none (files_of starved.fresh) starved.put.count (ap files_of same ∙ files_none folder starved.made.plan starved.made.time) in
@@ -412,8 +387,8 @@ never_overtaken absent laws folder files old version new is taken =
     there (ap (λ (n : ℕ). lookup (commit_path folder (n + 1)) files) newest_is ∙ absent files folder was.newest fits was.opened.was)
 
 pub stands : NextIsAbsent → Laws → DeleteStands
-stands absent laws folder old new files (stop.Refused (refused.Table refusal)) is (checked, same) = leaves folder files (stop.Refused (refused.Table refusal)) new (untouched folder files old new is same) (λ r e. cc)
-stands absent laws folder old new files (stop.Refused (refused.Statement refusal)) is (checked, same) = leaves folder files (stop.Refused (refused.Statement refusal)) new (untouched folder files old new is same) (λ r e. cc)
+stands absent laws folder old new files (stop.Refused (refused.Table refusal)) is (checked, same) = leaves folder files (stop.Refused (refused.Table refusal)) new (untouched files old new is same) (λ r e. cc)
+stands absent laws folder old new files (stop.Refused (refused.Statement refusal)) is (checked, same) = leaves folder files (stop.Refused (refused.Statement refusal)) new (untouched files old new is same) (λ r e. cc)
 stands absent laws folder old new files (stop.Refused (refused.Put (clash.NameTaken path))) is taken = absurd (never_named folder old path new taken)
 stands absent laws folder old new files (stop.Refused (refused.Put (clash.VersionTaken version))) is taken = absurd (never_overtaken absent laws folder files old version new is taken)
 stands absent laws folder old new files stop.Store is left = store_leaves laws folder files old new is left

@@ -37,6 +37,7 @@ use Rattle.table_load.specs.Head.{columns_in, head_at, head_of, mode_in, readabl
 use Rattle.table_load.specs.Held.{Opened, held, held_at, opened, opened_at, sound_ids, tracked_ids, unless_wrong, state_of as state_behind}
 use Rattle.table_load.specs.Properties.{tracks_rows}
 use Rattle.table_load.specs.declared.head.Head.{Head}
+use Rattle.table_write.proofs.Grown.{went}
 
 -- ---- what says nothing of the table
 
@@ -143,11 +144,6 @@ state_emptied commits c table silent none some known =
     (both_of (in_force metadata_in commits) (in_force protocol_in commits) (length commits - 1) (live_adds commits) (mark_in_force commits) (fallen commits) table known)
 
 -- ---- its head
-
--- the parts of two steps that gave a value
-went : {A B E : Type 0} (first : Result A E) (next : A → Result B E) (value : B) → go first next ≡ Ok value → (a : A) × (first ≡ Ok a) × (next a ≡ Ok value)
-went (Ok a) next value e = (a, refl, e)
-went (Err r) next value e = cc
 
 state_from : (known : Option Snapshot) (found : Snapshot) → state_of known ≡ Ok found → known ≡ Some found
 state_from None found e = cc

@@ -1,8 +1,7 @@
--- The steps of a write statement: its checks, its draw and its puts.
+-- The steps of a write statement: its checks and its puts.
 use Rattle.std.specs.Prelude.{◌≡◌, ℕ, List, [], get_or, Option, Result, Ok, Err, ⊤}
 use Rattle.dm_store.specs.Causes.{Rose}
 use Rattle.dm_store.specs.Files.{Files, WhereTold}
-use Rattle.dm_store.specs.Given.{Gave, KeepsGiven}
 use Rattle.dm_types.specs.declared.refusal.PutRefusal.TheVariants as clash
 use Rattle.dm_types.specs.declared.refusal.Refused.{Refused}
 use Rattle.dm_types.specs.declared.refusal.Refused.TheVariants as refused
@@ -33,14 +32,6 @@ Passes known (Err (stop.Refused refusal)) = known ≡ Err refusal
 Passes known (Err stop.Store) = ⊥
 Passes known (Err stop.Names) = ⊥
 Passes known (Err stop.Memory) = ⊤
-
--- the one draw of a write statement
-abbrev pub DrawsName : Option (List (List ℕ)) → Option (List (List ℕ)) → Result (List ℕ) Stop → Type 0
-DrawsName old new (Ok name) = Gave old new name
-DrawsName old new (Err (stop.Refused refusal)) = ⊥
-DrawsName old new (Err stop.Store) = ⊥
-DrawsName old new (Err stop.Names) = KeepsGiven old new
-DrawsName old new (Err stop.Memory) = ⊥
 
 -- what putting a new version leaves, by the answer: the files, and the count of the paths that were taken
 abbrev pub PutsVersion : NewFiles → Option Files → Option Files → ℕ → ℕ → Result (List ℕ) Stop → Type 0

@@ -9,11 +9,12 @@ ghost use Rattle.table_write.specs.Outside.{outside};
 ghost use Rattle.table_write.specs.StepsWriting.{Passes, TellsPlan};
 ghost use Rattle.table_write.specs.Writing.{CarriesOut};
 
-use crate::writing::{draw, put_version};
+use crate::writing::put_version;
 use commit_log::NewFiles;
 use delta_actions::{Action, Actions, AddAction, InfoAction, remove_file};
 use dm_store::{Clock, NameSource, Store};
 use dm_types::{Bytes, PathBytes, StatementRefusal, Stop, Text};
+use file_names::draw;
 use log_replay::Snapshot;
 use row_rules::read_rules;
 use std::alloc::{AllocError, Global};

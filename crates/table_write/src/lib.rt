@@ -2,9 +2,11 @@
 //! that they put.
 #![tactic(auto)]
 
+mod create;
 mod delete;
 mod laws;
 mod writing;
 
+pub use create::create_table;
 pub use delete::delete_from;
-pub use laws::{delete_empties, delete_stands};
+pub use laws::{create_makes, create_stands, delete_empties, delete_stands};

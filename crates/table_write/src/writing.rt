@@ -1,25 +1,14 @@
 // What every write statement does, once its checks have passed.
 ghost use Rattle.std.specs.Prelude.{◌≡◌, IfOk};
 ghost use Rattle.commit_log.specs.Block.{AreApart};
-ghost use Rattle.dm_store.specs.Causes.{Counts, StopCause, DrawCause};
+ghost use Rattle.dm_store.specs.Causes.{Counts, StopCause};
 ghost use Rattle.table_write.specs.StepsWriting as steps;
 ghost use Rattle.table_write.specs.Writing as spec;
 
 use commit_log::{NewFiles, commit};
-use dm_store::{NameSource, Store};
+use dm_store::Store;
 use dm_types::{Bytes, Stop};
 use std::alloc::{AllocError, Global};
-
-/// The one draw of a write statement, whose checks have passed. It then reads the clock once.
-pub(crate) fn draw<N: NameSource>(names: &mut N) -> Result<[u8; 16], Stop>
-    ensures given { steps.DrawsName (N.given names.old) (N.given names.new) result }
-    ensures draws { Counts DrawCause (N.faults names.old) (N.faults names.new) result }
-{
-    match names.draw() {
-        Ok(name) => Ok(name),
-        Err(_) => Err(Stop::Names),
-    }
-}
 
 /// Puts a new version, and gives the text of its statement, which is built before the first put.
 pub(crate) fn put_version<S: Store>(

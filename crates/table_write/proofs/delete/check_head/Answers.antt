@@ -1,5 +1,5 @@
 use Rattle.std.proofs.Common.{rules}
-use Rattle.table_write.proofs.Written.{head_passes, not_changeable, rules_refused}
+use Rattle.table_write.proofs.Deleting.{head_passes, not_changeable, rules_refused}
 use Rattle.table_write.proofs.delete.check_head.Goals as goal
 
 pub returns-in_err-read_rules : goal.returns-in_err-read_rules

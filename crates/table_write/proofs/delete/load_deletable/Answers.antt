@@ -1,5 +1,6 @@
 use Rattle.std.proofs.Common.{rules}
-use Rattle.table_write.proofs.Written.{handed, is_deletable, not_loaded, not_passed, passes_count}
+use Rattle.table_write.proofs.Deleting.{is_deletable, not_loaded, not_passed, passes_count}
+use Rattle.table_write.proofs.Written.{handed}
 use Rattle.table_write.proofs.delete.load_deletable.Goals as goal
 
 pub returns-in_err-loaded-clause-found : goal.returns-in_err-loaded-clause-found

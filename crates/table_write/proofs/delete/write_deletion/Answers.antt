@@ -1,7 +1,8 @@
 use Rattle.std.proofs.Common.{rules, refl, w64}
 use Rattle.std.proofs.lemmas.Int.{to_z-of_z}
 use Rattle.table_write.specs.Delete.{delete_from, deletion}
-use Rattle.table_write.proofs.Written.{undrawn, unmade, ends_putting, deletion_made, deletion_apart, deletion_same, draws_kept, put_of}
+use Rattle.table_write.proofs.Deleting.{deletion_made, deletion_apart, deletion_same}
+use Rattle.table_write.proofs.Written.{undrawn, unmade, ends_putting, draws_kept, put_of}
 use Rattle.table_write.proofs.delete.write_deletion.Goals as goal
 
 pub returns-in_err-draw-clause-answer : goal.returns-in_err-draw-clause-answer

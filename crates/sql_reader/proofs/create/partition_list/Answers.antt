@@ -1,0 +1,25 @@
+use Rattle.std.proofs.Common.{◌∙◌, sym}
+use Rattle.token_lang.proofs.Loops.{collects_on, collects_shorter}
+use Rattle.sql_tree.specs.Kinds.{is}
+use Rattle.sql_tree.specs.declared.token.Kind.TheVariants.{Comma}
+use Rattle.sql_grammar.specs.Reading.{run_next}
+use Rattle.sql_grammar.specs.Create.{run_partition}
+use Rattle.sql_grammar.proofs.Readers.{next_leads}
+use Rattle.sql_grammar.proofs.Create.{partition_leads}
+use Rattle.sql_grammar.proofs.Turns.{list_begins}
+use Rattle.sql_reader.proofs.create.partition_list.Goals as goal
+
+pub items-init : goal.items-init
+items-init c =
+    rw (c.in_ok-push.ensures.ok, c.new-all.ensures)
+    (list_begins (run_partition c.args.source.now) (is Comma) (run_next (run_partition c.args.source.now)) c.args.tokens.now c.partition.new.tokens c.in_ok-partition.field-0 c.in_ok-partition.ensures)
+
+pub items-smaller : goal.items-smaller
+items-smaller c =
+    let h = next_leads (partition_leads c.args.source.now) in
+    collects_shorter _ (run_next (run_partition c.args.source.now)) _ _ h.meets.exact h.solid c.items.tokens c.in_ok-next_partition.field-0 c.next_partition.new.tokens c.in_ok-next_partition.ensures
+
+pub items-preserved : goal.items-preserved
+items-preserved c =
+    let h = next_leads (partition_leads c.args.source.now) in
+    rw c.in_ok-push-2.ensures.ok (c.items.invariant ∙ collects_on _ (run_next (run_partition c.args.source.now)) _ _ h.meets.exact h.solid c.items.all c.items.tokens c.in_ok-next_partition.field-0 c.next_partition.new.tokens (sym c.sees.ensures ∙ c.items-test.true) c.in_ok-next_partition.ensures)
